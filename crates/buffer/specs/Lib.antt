@@ -1,0 +1,3 @@
+pub mod Tallies
+pub mod Steps
+pub mod Summaries

@@ -1,0 +1,12 @@
+//! The receiver lock: its events, its states, and the maps that sum up stretches of events.
+mod events;
+mod maps;
+mod states;
+
+pub use events::LockEvent;
+pub use maps::LockJoining;
+pub use maps::LockMap;
+pub use maps::LockStation;
+pub use states::LockState;
+pub use states::LockStateDefault;
+pub use states::LockStateDisplay;

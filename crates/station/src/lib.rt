@@ -1,0 +1,30 @@
+//! Summaries that join, stations that step, and the calls that are one text for both.
+mod entries;
+mod joining;
+mod kinds;
+mod pairing;
+mod refusals;
+mod replaying;
+mod spreading;
+mod summaries;
+mod summarizing;
+
+pub use entries::Entry;
+pub use entries::entry_summary;
+pub use joining::gather;
+pub use joining::prefix;
+pub use kinds::Station;
+pub use pairing::Pair;
+pub use pairing::PairDefault;
+pub use pairing::PairDisplay;
+pub use pairing::PairStation;
+pub use pairing::PairSummary;
+pub use refusals::Refusal;
+pub use refusals::RefusalDebug;
+pub use refusals::RefusalDisplay;
+pub use refusals::RefusalError;
+pub use refusals::RefusalPartialEq;
+pub use replaying::replay;
+pub use spreading::spread;
+pub use summaries::Summary;
+pub use summarizing::summarize;
