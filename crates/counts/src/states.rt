@@ -5,10 +5,10 @@ ghost use Rattle.std.specs.declared.option.Option.the-variants.{Some, None};
 ghost use mathlib.Core.Path.{_≡_};
 use crate::tallies::MODULUS;
 use crate::tallies::Tallies;
-use station::Refusal;
-use std::fmt;
 use crate::tallies::TalliesDebug;
 use crate::tallies::TalliesPartialEq;
+use station::Refusal;
+use std::fmt;
 
 // The last count, if a frame was seen, and the tallies so far.
 #[derive(Clone, Copy, PartialEq, Eq, Debug)]
@@ -18,7 +18,12 @@ pub struct CountState {
 }
 
 impl CountState {
-    pub fn new(last: Option<u16>, missing: u32, repeats: u32, late: u32) -> Result<CountState, Refusal>
+    pub fn new(
+        last: Option<u16>,
+        missing: u32,
+        repeats: u32,
+        late: u32,
+    ) -> Result<CountState, Refusal>
         ensures is { λ r. ⌜ r ≡ madeCountState last missing repeats late ⌝ }
         ensures counts { λ r. ⌜ Cases r (λ state. countRules .isState state) (λ _. Unit {0}) ⌝ }
     {
@@ -62,10 +67,8 @@ pub impl fmt::Display for CountState as CountStateDisplay {
     ghost shown = { λ state. Some (countText state) };
 
     fn fmt<W: fmt::Write>(&self, f: &mut fmt::Formatter<W>) -> fmt::Result {
-        let missing = self.tallies.missing;
-        let repeats = self.tallies.repeats;
-        let late = self.tallies.late;
-        match self.last {
+        let (seen, missing, repeats, late) = self.numbers();
+        match seen {
             Some(last) => write!(f, "{last} {missing} {repeats} {late}"),
             None => write!(f, "- {missing} {repeats} {late}"),
         }

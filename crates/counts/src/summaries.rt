@@ -4,11 +4,11 @@ ghost use mathlib.Core.Path.{_≡_};
 use crate::frames::FrameCount;
 use crate::states::CountState;
 use crate::tallies::Tallies;
+use crate::tallies::TalliesDebug;
+use crate::tallies::TalliesPartialEq;
 use crate::tallies::step_between;
 use station::Station;
 use station::Summary;
-use crate::tallies::TalliesDebug;
-use crate::tallies::TalliesPartialEq;
 
 // The first and the last count of a stretch of frames, and what it tallies inside.
 #[derive(Clone, Copy, PartialEq, Eq, Debug)]
@@ -31,11 +31,13 @@ impl CountSummary {
     {
         match self.span {
             None => None,
-            Some(Span {
-                first,
-                last,
-                tallies,
-            }) => Some((first, last, tallies.missing, tallies.repeats, tallies.late)),
+            Some(
+                Span {
+                    first,
+                    last,
+                    tallies,
+                },
+            ) => Some((first, last, tallies.missing, tallies.repeats, tallies.late)),
         }
     }
 }

@@ -8,11 +8,11 @@ use Rattle.station.specs.declared.entries.Entry.{Entry}
 use Rattle.station.specs.declared.entries.Entry.the-variants.{Item}
 use Rattle.station.specs.declared.refusals.Refusal.the-variants.{StateLimit}
 use Rattle.station.specs.Traces.{ran, statesAlong, pieceSummary}
-use Rattle.timed.specs.Clock.{clockEnd}
-use Rattle.timed.specs.declared.server.jobs.Job.{Job}
-use Rattle.timed.specs.declared.tandem.jobs.TandemJob.{TandemJob}
-use Rattle.timed.specs.Server.{job, serverState, serverSummary, serverJoins, serverRules}
-use Rattle.timed.specs.Tandem.{tandemJob, tandemState, tandemSummary, madeTandemState, tandemJoins, tandemRules}
+use Rattle.server.specs.Clock.{clockEnd}
+use Rattle.server.specs.declared.jobs.Job.{Job}
+use Rattle.tandem.specs.declared.jobs.TandemJob.{TandemJob}
+use Rattle.server.specs.Server.{job, serverState, serverSummary, serverJoins, serverRules}
+use Rattle.tandem.specs.Tandem.{tandemJob, tandemState, tandemSummary, madeTandemState, tandemJoins, tandemRules}
 use Rattle.buffer.specs.declared.slots.Slot.{Slot}
 use Rattle.buffer.specs.Steps.{slot, bufferState}
 use Rattle.buffer.specs.Summaries.{bufferSummary, bufferJoins, bufferRules}

@@ -20,7 +20,10 @@ fn run(rt: &LibcRuntime) -> Result<(), AnyError> {
     worked::locked(rt)?;
     worked::counted(rt)?;
     println!(rt, "")?;
-    println!(rt, "Both ways: a trace replayed, and the effect of its pieces' summaries joined")?;
+    println!(
+        rt,
+        "Both ways: a trace replayed, and the effect of its pieces' summaries joined"
+    )?;
     both_ways::timed_kinds(rt)?;
     both_ways::buffered(rt)?;
     both_ways::locked(rt)?;

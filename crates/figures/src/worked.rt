@@ -4,11 +4,24 @@ use buffer::BufferStation;
 use buffer::BufferSummary;
 use buffer::Slot;
 use counts::CountState;
+use counts::CountStateDefault;
+use counts::CountStation;
 use counts::CountSummary;
 use counts::FrameCount;
 use lock::LockEvent;
+use lock::LockJoining;
 use lock::LockMap;
+use lock::LockStation;
+use server::Job;
+use server::ServerJoining;
+use server::ServerState;
+use server::ServerStateDefault;
+use server::ServerStateDisplay;
+use server::ServerStation;
+use server::ServerSummary;
 use station::Refusal;
+use station::RefusalDisplay;
+use station::RefusalError;
 use station::Station;
 use station::Summary;
 use station::gather;
@@ -16,26 +29,13 @@ use station::prefix;
 use station::replay;
 use station::spread;
 use std::error::AnyError;
-use timed::Job;
-use timed::ServerState;
-use timed::ServerSummary;
-use timed::TandemJob;
-use timed::TandemState;
-use timed::TandemSummary;
-use counts::CountStateDefault;
-use counts::CountStation;
-use lock::LockJoining;
-use lock::LockStation;
-use station::RefusalDisplay;
-use station::RefusalError;
-use timed::ServerJoining;
-use timed::ServerStateDefault;
-use timed::ServerStateDisplay;
-use timed::ServerStation;
-use timed::TandemJoining;
-use timed::TandemStateDefault;
-use timed::TandemStateDisplay;
-use timed::TandemStation;
+use tandem::TandemJob;
+use tandem::TandemJoining;
+use tandem::TandemState;
+use tandem::TandemStateDefault;
+use tandem::TandemStateDisplay;
+use tandem::TandemStation;
+use tandem::TandemSummary;
 
 pub fn server(rt: &LibcRuntime) -> Result<(), AnyError> {
     let jobs = [Job::new(10, 5)?, Job::new(12, 5)?, Job::new(40, 3)?];
@@ -50,7 +50,10 @@ pub fn server(rt: &LibcRuntime) -> Result<(), AnyError> {
     spread(&fronts, ServerState::new(0)?, &mut states)?;
     let [first, second, third] = states;
     println!(rt, "F one server")?;
-    println!(rt, "  (10, 5) (12, 5) (40, 3) from 0: {first}, {second}, {third}")?;
+    println!(
+        rt,
+        "  (10, 5) (12, 5) (40, 3) from 0: {first}, {second}, {third}"
+    )?;
     println!(rt, "  summary p {p} q {q}")?;
     let from_hundred = replay::<ServerSummary>(ServerState::new(100)?, &jobs);
     println!(rt, "  from 100: {from_hundred}")?;
@@ -92,11 +95,22 @@ pub fn buffered(rt: &LibcRuntime) -> Result<(), AnyError> {
     let slots = [Slot::new(5, 2, 4), Slot::new(1, 3, 4)];
     let state = replay::<BufferSummary>(BufferState::new(0, 0, 0), &slots);
     let (queue, lost, served) = state.numbers();
-    let sum = gather(&[BufferSummary::of_item(slots[0]), BufferSummary::of_item(slots[1])]);
+    let sum = gather(
+        &[
+            BufferSummary::of_item(slots[0]),
+            BufferSummary::of_item(slots[1]),
+        ],
+    );
     let (alpha, theta, g, k, m) = sum.numbers();
     println!(rt, "B slotted buffer")?;
-    println!(rt, "  (5, 2, 4) (1, 3, 4) from 0: x {queue} lost {lost} served {served}")?;
-    println!(rt, "  summary alpha {alpha} theta {theta} g {g} k {k} m {m}")?;
+    println!(
+        rt,
+        "  (5, 2, 4) (1, 3, 4) from 0: x {queue} lost {lost} served {served}"
+    )?;
+    println!(
+        rt,
+        "  summary alpha {alpha} theta {theta} g {g} k {k} m {m}"
+    )?;
     Ok(())
 }
 
@@ -126,6 +140,9 @@ fn counted_pair(rt: &LibcRuntime, first: u16, second: u16) -> Result<(), AnyErro
     let frames = [FrameCount::new(first)?, FrameCount::new(second)?];
     let state = replay::<CountSummary>(CountState::default(), &frames);
     let (_, missing, repeats, late) = state.numbers();
-    println!(rt, "  {first} then {second}: missing {missing} repeats {repeats} late {late}")?;
+    println!(
+        rt,
+        "  {first} then {second}: missing {missing} repeats {repeats} late {late}"
+    )?;
     Ok(())
 }

@@ -10,16 +10,20 @@ use lock::LockEvent;
 use lock::LockMap;
 use lock::LockState;
 use station::Pair;
-use timed::TandemJob;
-use timed::TandemState;
-use timed::TandemSummary;
+use tandem::TandemJob;
+use tandem::TandemState;
+use tandem::TandemSummary;
 
 // Kind P.
 pub type CountedTandem = Pair<CountSummary, TandemSummary>;
+
 pub type CountedJob = Pair<FrameCount, TandemJob>;
+
 pub type CountedState = Pair<CountState, TandemState>;
 
 // Kind Q.
 pub type LockedBuffer = Pair<LockMap, BufferSummary>;
+
 pub type LockedSlot = Pair<LockEvent, Slot>;
+
 pub type LockedState = Pair<LockState, BufferState>;

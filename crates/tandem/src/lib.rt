@@ -1,0 +1,18 @@
+//! Two servers in tandem.
+mod jobs;
+mod states;
+mod summaries;
+
+pub use jobs::TandemJob;
+pub use jobs::TandemJobDebug;
+pub use jobs::TandemJobPartialEq;
+pub use states::TandemState;
+pub use states::TandemStateDebug;
+pub use states::TandemStateDefault;
+pub use states::TandemStateDisplay;
+pub use states::TandemStatePartialEq;
+pub use summaries::TandemJoining;
+pub use summaries::TandemStation;
+pub use summaries::TandemSummary;
+pub use summaries::TandemSummaryDebug;
+pub use summaries::TandemSummaryPartialEq;

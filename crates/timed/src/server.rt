@@ -1,3 +1,0 @@
-pub mod jobs;
-pub mod states;
-pub mod summaries;
