@@ -1,2 +1,4 @@
 pub mod Clamps
 pub mod BufferLaws
+pub mod SlotRecords
+pub mod LockedLaws

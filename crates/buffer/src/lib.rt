@@ -1,8 +1,12 @@
 //! The slotted buffer: its slots, its states, and the summaries of stretches of slots.
+mod locked;
+mod records;
 mod slots;
 mod states;
 mod summaries;
 
+pub use locked::LockedRecords;
+pub use records::BufferRecords;
 pub use slots::Slot;
 pub use slots::SlotDebug;
 pub use slots::SlotPartialEq;

@@ -14,10 +14,14 @@ pub use visits::VisitSummary;
 pub use visits::Visits;
 
 #[cfg(test)]
+mod damaged_blocks;
+#[cfg(test)]
 mod foreign_kinds;
 #[cfg(test)]
 mod limits;
 #[cfg(test)]
 mod long_traces;
+#[cfg(test)]
+mod record_limits;
 #[cfg(test)]
 mod wrapped_tallies;

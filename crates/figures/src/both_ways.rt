@@ -27,7 +27,6 @@ use station::Entry;
 use station::Pair;
 use station::PairDisplay;
 use station::PairStation;
-use station::Refusal;
 use station::RefusalError;
 use station::Station;
 use station::replay;
@@ -40,8 +39,6 @@ use tandem::TandemStateDefault;
 use tandem::TandemStateDisplay;
 use tandem::TandemStation;
 use tandem::TandemSummary;
-
-const CLOCK_END: u64 = 1_099_511_627_775;
 
 // The replay of a trace beside the effect of the join of its two halves' summaries.
 fn show<K: Station>(
@@ -62,97 +59,101 @@ where
     let back = summarize::<K>(&trace[half..]);
     let joined = front.join(back).effect(start);
     let replayed = replay::<K>(start, items);
-    println!(rt, "{kind} replay {replayed}")?;
-    println!(rt, "{kind} joined {joined}")?;
+    println!(rt, "{kind} replay {replayed}\n{kind} joined {joined}")?;
     Ok(())
 }
 
 // Times that reach the end of the clock.
-pub fn timed_kinds(rt: &LibcRuntime) -> Result<(), AnyError> {
-    let jobs = [
-        Job::new(10, 5)?,
-        Job::new(CLOCK_END - 30, 16)?,
-        Job::new(CLOCK_END - 20, 4)?,
-        Job::new(0, 2)?,
-        Job::new(CLOCK_END - 9, 16_777_215)?,
-    ];
-    show::<ServerSummary>(rt, 'F', ServerState::new(7)?, &jobs)?;
-    let tandem = [
-        TandemJob::new(0, 4, 6)?,
-        TandemJob::new(1, 4, 1)?,
-        TandemJob::new(CLOCK_END - 12, 5, 9)?,
-        TandemJob::new(CLOCK_END - 11, 2, 3)?,
-    ];
-    show::<TandemSummary>(rt, 'T', TandemState::new(2, 9)?, &tandem)
-}
+const JOBS: [(u64, u32); 5] = [
+    (10, 5),
+    (1_099_511_627_745, 16),
+    (1_099_511_627_755, 4),
+    (0, 2),
+    (1_099_511_627_766, 16_777_215),
+];
 
-fn slots() -> [Slot; 5] {
-    [
-        Slot::new(5, 2, 4),
-        Slot::new(9, 3, 6),
-        Slot::new(0, 7, 65_535),
-        Slot::new(65_535, 0, 65_535),
-        Slot::new(65_535, 1, 65_530),
-    ]
-}
+const TANDEM_JOBS: [(u64, u32, u32); 4] = [
+    (0, 4, 6),
+    (1, 4, 1),
+    (1_099_511_627_763, 5, 9),
+    (1_099_511_627_764, 2, 3),
+];
 
-// Losses, and tallies that pass 2^32.
-pub fn buffered(rt: &LibcRuntime) -> Result<(), AnyError> {
-    let start = BufferState::new(3, 4_294_967_295, 4_294_967_290);
-    show::<BufferSummary>(rt, 'B', start, &slots())
-}
-
-fn events() -> Result<[LockEvent; 5], Refusal> {
-    Ok([
-        LockEvent::new('G')?,
-        LockEvent::new('G')?,
-        LockEvent::new('G')?,
-        LockEvent::new('B')?,
-        LockEvent::new('B')?,
-    ])
-}
+// Losses on a small buffer, and on one that is full.
+const SLOTS: [(u16, u16, u16); 5] = [
+    (5, 2, 4),
+    (9, 3, 6),
+    (0, 7, 65_535),
+    (65_535, 0, 65_535),
+    (65_535, 1, 65_530),
+];
 
 // Into lock, and two bad markers.
+const LETTERS: [char; 5] = ['G', 'G', 'G', 'B', 'B'];
+
+// A count that wraps in mid-pass, with a gap, a repeat and a late frame.
+const COUNTS: [u16; 5] = [16_382, 16_383, 1, 1, 0];
+
+pub fn server(rt: &LibcRuntime) -> Result<(), AnyError> {
+    let mut jobs = Vec::new(rt.alloc());
+    for (arrival, service) in JOBS {
+        jobs.push(Job::new(arrival, service)?)?;
+    }
+    show::<ServerSummary>(rt, 'F', ServerState::new(7)?, &jobs)
+}
+
+pub fn tandem(rt: &LibcRuntime) -> Result<(), AnyError> {
+    let mut jobs = Vec::new(rt.alloc());
+    for (arrival, first, second) in TANDEM_JOBS {
+        jobs.push(TandemJob::new(arrival, first, second)?)?;
+    }
+    show::<TandemSummary>(rt, 'T', TandemState::new(2, 9)?, &jobs)
+}
+
+// From tallies that pass 2^32.
+pub fn buffered(rt: &LibcRuntime) -> Result<(), AnyError> {
+    let mut slots = Vec::new(rt.alloc());
+    for (arrivals, service, limit) in SLOTS {
+        slots.push(Slot::new(arrivals, service, limit))?;
+    }
+    let start = BufferState::new(3, 4_294_967_295, 4_294_967_290);
+    show::<BufferSummary>(rt, 'B', start, &slots)
+}
+
 pub fn locked(rt: &LibcRuntime) -> Result<(), AnyError> {
-    show::<LockMap>(rt, 'S', LockState::new(0)?, &events()?)
+    let mut events = Vec::new(rt.alloc());
+    for letter in LETTERS {
+        events.push(LockEvent::new(letter)?)?;
+    }
+    show::<LockMap>(rt, 'S', LockState::default(), &events)
 }
 
-fn frames() -> Result<[FrameCount; 5], Refusal> {
-    Ok([
-        FrameCount::new(16_382)?,
-        FrameCount::new(16_383)?,
-        FrameCount::new(1)?,
-        FrameCount::new(1)?,
-        FrameCount::new(0)?,
-    ])
-}
-
-// A count that wraps in mid-pass, a gap, a repeat and a late frame.
 pub fn counted(rt: &LibcRuntime) -> Result<(), AnyError> {
-    show::<CountSummary>(rt, 'C', CountState::default(), &frames()?)
+    let mut frames = Vec::new(rt.alloc());
+    for count in COUNTS {
+        frames.push(FrameCount::new(count)?)?;
+    }
+    show::<CountSummary>(rt, 'C', CountState::default(), &frames)
 }
 
-pub fn pairs(rt: &LibcRuntime) -> Result<(), AnyError> {
-    let [f0, f1, f2, _, f4] = frames()?;
-    let counted = [
-        beside(f0, TandemJob::new(0, 4, 6)?),
-        beside(f1, TandemJob::new(1, 4, 1)?),
-        beside(f2, TandemJob::new(CLOCK_END - 12, 5, 9)?),
-        beside(f4, TandemJob::new(CLOCK_END - 11, 2, 3)?),
-    ];
+pub fn counted_tandem(rt: &LibcRuntime) -> Result<(), AnyError> {
+    let mut items = Vec::new(rt.alloc());
+    for (count, (arrival, first, second)) in COUNTS.into_iter().zip(TANDEM_JOBS) {
+        let job = TandemJob::new(arrival, first, second)?;
+        items.push(beside(FrameCount::new(count)?, job))?;
+    }
     let start = beside(CountState::default(), TandemState::default());
-    show::<CountedTandem>(rt, 'P', start, &counted)?;
-    let [e0, e1, e2, e3, e4] = events()?;
-    let [s0, s1, s2, s3, s4] = slots();
-    let slots = [
-        beside(e0, s0),
-        beside(e1, s1),
-        beside(e2, s2),
-        beside(e3, s3),
-        beside(e4, s4),
-    ];
+    show::<CountedTandem>(rt, 'P', start, &items)
+}
+
+pub fn locked_buffer(rt: &LibcRuntime) -> Result<(), AnyError> {
+    let mut items = Vec::new(rt.alloc());
+    for (letter, (arrivals, service, limit)) in LETTERS.into_iter().zip(SLOTS) {
+        let slot = Slot::new(arrivals, service, limit);
+        items.push(beside(LockEvent::new(letter)?, slot))?;
+    }
     let start = beside(LockState::default(), BufferState::default());
-    show::<LockedBuffer>(rt, 'Q', start, &slots)
+    show::<LockedBuffer>(rt, 'Q', start, &items)
 }
 
 fn beside<A, B>(first: A, second: B) -> Pair<A, B> {

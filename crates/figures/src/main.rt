@@ -1,6 +1,7 @@
 //! Prints the worked figures, and one trace of each kind both ways, through the library.
 ghost use Rattle.figures.specs.Worked.{WorkedFigures};
 
+mod blocks;
 mod both_ways;
 mod worked;
 
@@ -24,11 +25,15 @@ fn run(rt: &LibcRuntime) -> Result<(), AnyError> {
         rt,
         "Both ways: a trace replayed, and the effect of its pieces' summaries joined"
     )?;
-    both_ways::timed_kinds(rt)?;
+    both_ways::server(rt)?;
+    both_ways::tandem(rt)?;
     both_ways::buffered(rt)?;
     both_ways::locked(rt)?;
     both_ways::counted(rt)?;
-    both_ways::pairs(rt)
+    both_ways::counted_tandem(rt)?;
+    both_ways::locked_buffer(rt)?;
+    println!(rt, "\nA block of frame counts")?;
+    blocks::counts(rt)
 }
 
 fn main(rt: LibcRuntime) -> Result<(), AnyError> {

@@ -37,47 +37,71 @@ use tandem::TandemStateDisplay;
 use tandem::TandemStation;
 use tandem::TandemSummary;
 
-pub fn server(rt: &LibcRuntime) -> Result<(), AnyError> {
-    let jobs = [Job::new(10, 5)?, Job::new(12, 5)?, Job::new(40, 3)?];
+// The states behind each of three jobs from a start, and the summary of all three.
+fn server_states(
+    jobs: [Job; 3],
+    start: ServerState,
+) -> Result<([ServerState; 3], ServerSummary), Refusal> {
     let mut fronts = [
         ServerSummary::of_item(jobs[0]),
         ServerSummary::of_item(jobs[1]),
         ServerSummary::of_item(jobs[2]),
     ];
-    let (p, q) = gather(&fronts).numbers();
+    let sum = gather(&fronts);
     prefix(&mut fronts);
-    let mut states = [ServerState::default(); 3];
-    spread(&fronts, ServerState::new(0)?, &mut states)?;
-    let [first, second, third] = states;
-    println!(rt, "F one server")?;
+    let mut states = [start; 3];
+    spread(&fronts, start, &mut states)?;
+    Ok((states, sum))
+}
+
+fn server_jobs() -> Result<[Job; 3], Refusal> {
+    Ok([Job::new(10, 5)?, Job::new(12, 5)?, Job::new(40, 3)?])
+}
+
+pub fn server(rt: &LibcRuntime) -> Result<(), AnyError> {
+    let jobs = server_jobs()?;
+    let ([first, second, third], sum) = server_states(jobs, ServerState::default())?;
+    let (p, q) = sum.numbers();
+    let later = replay::<ServerSummary>(ServerState::new(100)?, &jobs);
     println!(
         rt,
-        "  (10, 5) (12, 5) (40, 3) from 0: {first}, {second}, {third}"
+        "F one server\n  (10, 5) (12, 5) (40, 3) from 0: {first}, {second}, {third}\n  summary p {p} q {q}\n  from 100: {later}"
     )?;
-    println!(rt, "  summary p {p} q {q}")?;
-    let from_hundred = replay::<ServerSummary>(ServerState::new(100)?, &jobs);
-    println!(rt, "  from 100: {from_hundred}")?;
+    last_tick(rt, 1_099_511_627_774)?;
+    last_tick(rt, 1_099_511_627_775)
+}
+
+// One more microsecond at the end of the clock.
+fn last_tick(rt: &LibcRuntime, start: u64) -> Result<(), AnyError> {
     let tick = [Job::new(0, 1)?];
-    let before_end = replay::<ServerSummary>(ServerState::new(1_099_511_627_774)?, &tick);
-    println!(rt, "  (0, 1) from 1099511627774: {before_end}")?;
-    let at_end = replay::<ServerSummary>(ServerState::new(1_099_511_627_775)?, &tick);
-    println!(rt, "  (0, 1) from 1099511627775: {at_end}")?;
+    let end = replay::<ServerSummary>(ServerState::new(start)?, &tick);
+    println!(rt, "  (0, 1) from {start}: {end}")?;
     Ok(())
 }
 
-pub fn tandem(rt: &LibcRuntime) -> Result<(), AnyError> {
+fn tandem_states(
+    jobs: [TandemJob; 2],
+    start: TandemState,
+) -> Result<([TandemState; 2], TandemSummary), Refusal> {
     let mut fronts = [
-        TandemSummary::of_item(TandemJob::new(0, 4, 6)?),
-        TandemSummary::of_item(TandemJob::new(1, 4, 1)?),
+        TandemSummary::of_item(jobs[0]),
+        TandemSummary::of_item(jobs[1]),
     ];
-    let (p, q, r, t, u) = gather(&fronts).numbers();
+    let sum = gather(&fronts);
     prefix(&mut fronts);
-    let mut states = [TandemState::default(); 2];
-    spread(&fronts, TandemState::new(0, 0)?, &mut states)?;
-    let [first, second] = states;
-    println!(rt, "T two servers in tandem")?;
-    println!(rt, "  (0, 4, 6) (1, 4, 1) from 0 0: {first}, {second}")?;
-    println!(rt, "  summary p {p} q {q} r {r} t {t} u {u}")?;
+    let mut states = [start; 2];
+    spread(&fronts, start, &mut states)?;
+    Ok((states, sum))
+}
+
+pub fn tandem(rt: &LibcRuntime) -> Result<(), AnyError> {
+    let jobs = [TandemJob::new(0, 4, 6)?, TandemJob::new(1, 4, 1)?];
+    let ([first, second], sum) = tandem_states(jobs, TandemState::default())?;
+    let (p, q, r, t, u) = sum.numbers();
+    println!(
+        rt,
+        "T two servers in tandem\n  (0, 4, 6) (1, 4, 1) from 0 0: {first}, {second}\n  summary p {p} q {q} r {r} t {t} u {u}"
+    )?;
     made(rt, 5, 5)?;
     made(rt, 5, 4)
 }

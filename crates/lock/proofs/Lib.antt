@@ -1,2 +1,3 @@
 pub mod MapLaws
 pub mod LockLaws
+pub mod EventRecords

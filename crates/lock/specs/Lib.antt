@@ -1,3 +1,4 @@
 pub mod States
 pub mod Events
 pub mod Maps
+pub mod Records

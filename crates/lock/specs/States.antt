@@ -1,4 +1,4 @@
--- The states: 0 searching, 1 and 2 check, 3 lock, 4 to 6 flywheel, 7 stowed.
+-- The states: 0 seek, 1 and 2 check, 3 lock, 4 to 6 flywheel, 7 stowed.
 use mathlib.Core.Bool.{cond}
 use mathlib.Core.List.{List}
 use Prim.Native.Nat.{ℕ, _≤_}

@@ -1,6 +1,7 @@
 //! The receiver lock: its events, its states, and the maps that sum up stretches of events.
 mod events;
 mod maps;
+mod records;
 mod states;
 
 pub use events::LockEvent;
@@ -11,6 +12,7 @@ pub use maps::LockMap;
 pub use maps::LockMapDebug;
 pub use maps::LockMapPartialEq;
 pub use maps::LockStation;
+pub use records::LockRecords;
 pub use states::LockState;
 pub use states::LockStateDebug;
 pub use states::LockStateDefault;

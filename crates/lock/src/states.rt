@@ -7,7 +7,7 @@ ghost use Rattle.lock.specs.Maps.{lockRules};
 use station::Refusal;
 use std::fmt;
 
-// 0 searching, 1 and 2 check, 3 lock, 4 to 6 flywheel, 7 stowed.
+// 0 seek, 1 and 2 check, 3 lock, 4 to 6 flywheel, 7 stowed.
 #[derive(Clone, Copy, PartialEq, Eq, Debug)]
 pub struct LockState {
     number: u8,
@@ -42,7 +42,7 @@ impl LockState {
     }
 }
 
-// A lock begins by searching.
+// A lock begins by seeking.
 pub impl Default for LockState as LockStateDefault {
     ghost isDefault = { λ s. s ≡ lockState 0 };
 

@@ -1,7 +1,9 @@
 //! The two kinds that stand side by side: frame counts beside two servers in tandem, and receiver lock beside the slotted
-//! buffer. Each is the generic pair of its parts, with nothing of its own.
+//! buffer. Each is the generic pair of its parts; only its records are its own, and they stand with the part whose record
+//! they widen.
 use buffer::BufferState;
 use buffer::BufferSummary;
+pub use buffer::LockedRecords;
 use buffer::Slot;
 use counts::CountState;
 use counts::CountSummary;
@@ -10,6 +12,7 @@ use lock::LockEvent;
 use lock::LockMap;
 use lock::LockState;
 use station::Pair;
+pub use tandem::CountedRecords;
 use tandem::TandemJob;
 use tandem::TandemState;
 use tandem::TandemSummary;

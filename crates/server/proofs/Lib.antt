@@ -1,2 +1,3 @@
 pub mod ClockLaws
 pub mod ServerLaws
+pub mod JobRecords

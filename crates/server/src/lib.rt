@@ -1,6 +1,7 @@
 //! The clock, and one server on it.
 mod clock;
 mod jobs;
+mod records;
 mod states;
 mod summaries;
 
@@ -10,6 +11,7 @@ pub use clock::capped_sum;
 pub use jobs::Job;
 pub use jobs::JobDebug;
 pub use jobs::JobPartialEq;
+pub use records::ServerRecords;
 pub use states::ServerState;
 pub use states::ServerStateDebug;
 pub use states::ServerStateDefault;

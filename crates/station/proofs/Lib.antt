@@ -2,3 +2,4 @@ pub mod Fronts
 pub mod Folds
 pub mod Groupings
 pub mod Pieces
+pub mod RecordWays

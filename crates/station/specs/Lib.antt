@@ -4,3 +4,6 @@ pub mod Traces
 pub mod Spreading
 pub mod Pairs
 pub mod Refusals
+pub mod Faults
+pub mod Letters
+pub mod Records

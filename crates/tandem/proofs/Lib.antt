@@ -1,1 +1,3 @@
 pub mod TandemLaws
+pub mod JobRecords
+pub mod CountedLaws

@@ -1,1 +1,3 @@
 pub mod Tandem
+pub mod Records
+pub mod Counted

@@ -1,0 +1,4 @@
+pub mod NumberLaws
+pub mod Layouts
+pub mod Ways
+pub mod Zeros
