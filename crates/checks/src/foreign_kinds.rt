@@ -16,7 +16,6 @@ use crate::visits::VisitSummaryPartialEq;
 use crate::visits::Visits;
 use crate::visits::VisitsDebug;
 use crate::visits::VisitsPartialEq;
-use station::Entry;
 use station::Pair;
 use station::PairDebug;
 use station::PairPartialEq;
@@ -24,10 +23,11 @@ use station::PairStation;
 use station::PairSummary;
 use station::Station;
 use station::Summary;
-use station::gather;
-use station::replay;
-use station::summarize;
 use std::test::*;
+use traces::Entry;
+use traces::gather;
+use traces::replay;
+use traces::summarize;
 
 type Both = Pair<PeakSummary, VisitSummary>;
 

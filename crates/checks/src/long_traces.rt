@@ -32,7 +32,6 @@ use server::ServerStateDisplay;
 use server::ServerStatePartialEq;
 use server::ServerStation;
 use server::ServerSummary;
-use station::Entry;
 use station::Pair;
 use station::PairDebug;
 use station::PairDisplay;
@@ -40,8 +39,6 @@ use station::PairPartialEq;
 use station::PairStation;
 use station::RefusalDebug;
 use station::Station;
-use station::replay;
-use station::summarize;
 use std::alloc::Global;
 use std::fmt::Debug;
 use std::fmt::Display;
@@ -54,6 +51,9 @@ use tandem::TandemStateDisplay;
 use tandem::TandemStatePartialEq;
 use tandem::TandemStation;
 use tandem::TandemSummary;
+use traces::Entry;
+use traces::replay;
+use traces::summarize;
 
 const ITEMS: usize = 200;
 

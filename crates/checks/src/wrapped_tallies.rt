@@ -14,8 +14,8 @@ use counts::FrameCount;
 use station::RefusalDebug;
 use station::Station;
 use station::Summary;
-use station::replay;
 use std::test::*;
+use traces::replay;
 
 #[test]
 fn of_the_buffer() -> Result<(), Fail> {

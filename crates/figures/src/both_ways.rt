@@ -23,14 +23,11 @@ use server::ServerState;
 use server::ServerStateDisplay;
 use server::ServerStation;
 use server::ServerSummary;
-use station::Entry;
 use station::Pair;
 use station::PairDisplay;
 use station::PairStation;
 use station::RefusalError;
 use station::Station;
-use station::replay;
-use station::summarize;
 use std::error::AnyError;
 use std::fmt::Display;
 use tandem::TandemJob;
@@ -39,6 +36,9 @@ use tandem::TandemStateDefault;
 use tandem::TandemStateDisplay;
 use tandem::TandemStation;
 use tandem::TandemSummary;
+use traces::Entry;
+use traces::replay;
+use traces::summarize;
 
 // The replay of a trace beside the effect of the join of its two halves' summaries.
 fn show<K: Station>(

@@ -1,29 +1,25 @@
 //! Prints the worked figures, and one trace of each kind both ways, through the library.
-ghost use Rattle.figures.specs.Worked.{WorkedFigures};
-
 mod blocks;
 mod both_ways;
-mod worked;
+mod by_hand;
 
 use std::error::AnyError;
+use worked::figures_follow_from_rules;
 
-// The rules give the worked figures: a theorem about the definitions that the library's contracts cite.
-pub fn figures_follow_from_rules()
-    ensures { λ _. ⌜ WorkedFigures ⌝ }
-{}
-
-fn run(rt: &LibcRuntime) -> Result<(), AnyError> {
+fn print_worked(rt: &LibcRuntime) -> Result<(), AnyError> {
     figures_follow_from_rules();
     println!(rt, "Worked figures")?;
-    worked::server(rt)?;
-    worked::tandem(rt)?;
-    worked::buffered(rt)?;
-    worked::locked(rt)?;
-    worked::counted(rt)?;
-    println!(rt, "")?;
+    by_hand::server(rt)?;
+    by_hand::tandem(rt)?;
+    by_hand::buffered(rt)?;
+    by_hand::locked(rt)?;
+    by_hand::counted(rt)
+}
+
+fn print_both_ways(rt: &LibcRuntime) -> Result<(), AnyError> {
     println!(
         rt,
-        "Both ways: a trace replayed, and the effect of its pieces' summaries joined"
+        "\nBoth ways: a trace replayed, and the effect of its pieces' summaries joined"
     )?;
     both_ways::server(rt)?;
     both_ways::tandem(rt)?;
@@ -31,7 +27,12 @@ fn run(rt: &LibcRuntime) -> Result<(), AnyError> {
     both_ways::locked(rt)?;
     both_ways::counted(rt)?;
     both_ways::counted_tandem(rt)?;
-    both_ways::locked_buffer(rt)?;
+    both_ways::locked_buffer(rt)
+}
+
+fn run(rt: &LibcRuntime) -> Result<(), AnyError> {
+    print_worked(rt)?;
+    print_both_ways(rt)?;
     println!(rt, "\nA block of frame counts")?;
     blocks::counts(rt)
 }

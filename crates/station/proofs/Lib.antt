@@ -1,5 +1,1 @@
-pub mod Fronts
-pub mod Folds
-pub mod Groupings
-pub mod Pieces
 pub mod RecordWays

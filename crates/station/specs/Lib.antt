@@ -1,7 +1,4 @@
 pub mod Laws
-pub mod Lists
-pub mod Traces
-pub mod Spreading
 pub mod Pairs
 pub mod Refusals
 pub mod Faults

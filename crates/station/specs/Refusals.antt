@@ -1,9 +1,8 @@
 -- The refusals and their numbers.
-use mathlib.Core.Bool.{cond}
+use mathlib.Core.List.{List, _++_}
 use Prim.Native.Nat.{ℕ}
-use lib.Dec.{leb}
-use Rattle.std.specs.declared.result.Result.{Result}
-use Rattle.std.specs.declared.result.Result.the-variants.{Ok, Err}
+use lib.Chars.{codes}
+use Rattle.std.specs.Written.{decimal}
 use Rattle.station.specs.declared.refusals.Refusal.{Refusal}
 use Rattle.station.specs.declared.refusals.Refusal.the-variants.{TrialOpen, NoRoom, NoSuchPosition, NothingToSettle, ItemLimit, StateLimit, BlockLength, BlockCheck, Layout, OtherKind, ShortMemory}
 
@@ -20,6 +19,6 @@ numberOf Layout = 9
 numberOf OtherKind = 10
 numberOf ShortMemory = 11
 
--- what `spread` answers for so many prefixes and so many places for states
-abbrev pub spreadAnswer : ℕ → ℕ → Result (Unit {0}) Refusal
-spreadAnswer prefixes places = cond (leb prefixes places) (Ok tt) (Err ShortMemory)
+-- how a refusal is printed
+abbrev pub refusalText : Refusal → List ℕ
+refusalText r = codes "refused with " ++ decimal (numberOf r)

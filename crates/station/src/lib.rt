@@ -1,21 +1,12 @@
-//! Summaries that join, stations that step, and the calls that are one text for both.
-mod entries;
-mod joining;
+//! Summaries that join, stations that step, two kinds side by side, and records: the interfaces of the simulator.
 mod kinds;
 mod letters;
 mod paired_records;
 mod pairing;
 mod records;
 mod refusals;
-mod replaying;
-mod spreading;
 mod summaries;
-mod summarizing;
 
-pub use entries::Entry;
-pub use entries::entry_summary;
-pub use joining::gather;
-pub use joining::prefix;
 pub use kinds::Station;
 pub use letters::Letter;
 pub use letters::LetterDebug;
@@ -38,7 +29,4 @@ pub use refusals::RefusalDebug;
 pub use refusals::RefusalDisplay;
 pub use refusals::RefusalError;
 pub use refusals::RefusalPartialEq;
-pub use replaying::replay;
-pub use spreading::spread;
 pub use summaries::Summary;
-pub use summarizing::summarize;

@@ -1,4 +1,5 @@
-ghost use Rattle.station.specs.Refusals.{numberOf};
+ghost use Rattle.station.specs.Refusals.{numberOf, refusalText};
+ghost use Rattle.std.specs.declared.option.Option.the-variants.{Some};
 ghost use mathlib.Core.Path.{_≡_};
 use std::error::Error;
 use std::fmt;
@@ -40,23 +41,13 @@ impl Refusal {
     }
 }
 
+// Its number; docs/REFUSALS.md says what each means.
 pub impl fmt::Display for Refusal as RefusalDisplay {
+    ghost shown = { λ refusal. Some (refusalText refusal) };
+
     fn fmt<W: fmt::Write>(&self, f: &mut fmt::Formatter<W>) -> fmt::Result {
         let number = self.number();
-        let meaning = match self {
-            Refusal::TrialOpen => "a trial is open",
-            Refusal::NoRoom => "no room for more entries",
-            Refusal::NoSuchPosition => "no entry at that position",
-            Refusal::NothingToSettle => "no open trial of that number",
-            Refusal::ItemLimit => "an item beyond its limits",
-            Refusal::StateLimit => "a state beyond its limits",
-            Refusal::BlockLength => "a block that is not 512 bytes long",
-            Refusal::BlockCheck => "a block whose check differs",
-            Refusal::Layout => "a byte against the layout",
-            Refusal::OtherKind => "a block of another kind",
-            Refusal::ShortMemory => "too little memory given",
-        };
-        write!(f, "refused with {number}: {meaning}")
+        write!(f, "refused with {number}")
     }
 }
 
