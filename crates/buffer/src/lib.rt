@@ -18,5 +18,3 @@ pub use states::BufferStatePartialEq;
 pub use summaries::BufferJoining;
 pub use summaries::BufferStation;
 pub use summaries::BufferSummary;
-pub use summaries::BufferSummaryDebug;
-pub use summaries::BufferSummaryPartialEq;

@@ -10,7 +10,7 @@ use station::Summary;
 // What a stretch of slots does to any queue before it. The queues from alpha to theta become those from g on, one for
 // one; a lower queue ends as alpha does, a higher as theta does, and what it has above theta is lost besides. Whatever
 // the queue, k are lost, and m arrive. The tallies k and m count modulo 2^32.
-#[derive(Clone, Copy, PartialEq, Eq, Debug)]
+#[derive(Clone, Copy)]
 pub struct BufferSummary {
     alpha: u16,
     theta: u16,

@@ -17,5 +17,3 @@ pub use states::CountStatePartialEq;
 pub use summaries::CountJoining;
 pub use summaries::CountStation;
 pub use summaries::CountSummary;
-pub use summaries::CountSummaryDebug;
-pub use summaries::CountSummaryPartialEq;

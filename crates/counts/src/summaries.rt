@@ -4,14 +4,12 @@ ghost use mathlib.Core.Path.{_≡_};
 use crate::frames::FrameCount;
 use crate::states::CountState;
 use crate::tallies::Tallies;
-use crate::tallies::TalliesDebug;
-use crate::tallies::TalliesPartialEq;
 use crate::tallies::step_between;
 use station::Station;
 use station::Summary;
 
 // The first and the last count of a stretch of frames, and what it tallies inside.
-#[derive(Clone, Copy, PartialEq, Eq, Debug)]
+#[derive(Clone, Copy)]
 struct Span {
     first: u16,
     last: u16,
@@ -19,7 +17,7 @@ struct Span {
 }
 
 // A stretch with no frame, or a span.
-#[derive(Clone, Copy, PartialEq, Eq, Debug)]
+#[derive(Clone, Copy)]
 pub struct CountSummary {
     span: Option<Span>,
 }

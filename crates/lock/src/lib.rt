@@ -9,8 +9,6 @@ pub use events::LockEventDebug;
 pub use events::LockEventPartialEq;
 pub use maps::LockJoining;
 pub use maps::LockMap;
-pub use maps::LockMapDebug;
-pub use maps::LockMapPartialEq;
 pub use maps::LockStation;
 pub use records::LockRecords;
 pub use states::LockState;

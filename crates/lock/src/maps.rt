@@ -9,7 +9,7 @@ use station::Station;
 use station::Summary;
 
 // Where a stretch of events leads from each of the eight states: an octal digit for each state, that of state 0 lowest.
-#[derive(Clone, Copy, PartialEq, Eq, Debug)]
+#[derive(Clone, Copy)]
 pub struct LockMap {
     bits: u32,
 }

@@ -20,5 +20,3 @@ pub use states::ServerStatePartialEq;
 pub use summaries::ServerJoining;
 pub use summaries::ServerStation;
 pub use summaries::ServerSummary;
-pub use summaries::ServerSummaryDebug;
-pub use summaries::ServerSummaryPartialEq;

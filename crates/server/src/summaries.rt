@@ -7,7 +7,7 @@ use station::Station;
 use station::Summary;
 
 // What a stretch of jobs does to a server that falls free at d: it falls free at d + p, and not before q.
-#[derive(Clone, Copy, PartialEq, Eq, Debug)]
+#[derive(Clone, Copy)]
 pub struct ServerSummary {
     p: u64,
     q: u64,

@@ -18,5 +18,3 @@ pub use states::TandemStatePartialEq;
 pub use summaries::TandemJoining;
 pub use summaries::TandemStation;
 pub use summaries::TandemSummary;
-pub use summaries::TandemSummaryDebug;
-pub use summaries::TandemSummaryPartialEq;

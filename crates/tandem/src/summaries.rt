@@ -8,7 +8,7 @@ use station::Summary;
 
 // What a stretch of jobs does to servers that fall free at d and e: the first falls free at d + p and not before q, the
 // second at d + r, at e + t, and not before u.
-#[derive(Clone, Copy, PartialEq, Eq, Debug)]
+#[derive(Clone, Copy)]
 pub struct TandemSummary {
     p: u64,
     q: u64,
