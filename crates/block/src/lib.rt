@@ -1,4 +1,6 @@
 //! Blocks of 512 bytes that hold the records of one kind, or a note.
+#![tactic(auto)]
+
 mod check;
 mod faults;
 mod framing;

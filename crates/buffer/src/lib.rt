@@ -1,4 +1,6 @@
 //! The slotted buffer: its slots, its states, and the summaries of stretches of slots.
+#![tactic(auto)]
+
 mod locked;
 mod records;
 mod slots;

@@ -1,4 +1,6 @@
 //! Fields of bytes: numbers with their lowest byte first, and bytes that must be zero.
+#![tactic(auto)]
+
 mod numbers;
 mod records;
 mod unused;

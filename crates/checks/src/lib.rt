@@ -1,4 +1,6 @@
 //! Tests over all kinds, and two kinds that the library does not know.
+#![tactic(auto)]
+
 mod readings;
 mod visits;
 

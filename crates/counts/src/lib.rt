@@ -1,4 +1,6 @@
 //! Frame counts: what a receiver misses, sees twice or sees late, by a 14-bit count that wraps.
+#![tactic(auto)]
+
 mod frames;
 mod records;
 mod states;

@@ -1,4 +1,6 @@
 //! Prints the worked figures, and one trace of each kind both ways, through the library.
+#![tactic(auto)]
+
 mod blocks;
 mod both_ways;
 mod by_hand;

@@ -1,4 +1,6 @@
 //! What a block brings to a run of one kind, and the faults of loading it.
+#![tactic(auto)]
+
 mod faults;
 mod records;
 

@@ -1,4 +1,6 @@
 //! The receiver lock: its events, its states, and the maps that sum up stretches of events.
+#![tactic(auto)]
+
 mod events;
 mod maps;
 mod records;

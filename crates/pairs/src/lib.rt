@@ -1,6 +1,8 @@
 //! The two kinds that stand side by side: frame counts beside two servers in tandem, and receiver lock beside the slotted
 //! buffer. Each is the generic pair of its parts; only its records are its own, and they stand with the part whose record
 //! they widen.
+#![tactic(auto)]
+
 use buffer::{BufferState, BufferSummary, Slot};
 use counts::{CountState, CountSummary, FrameCount};
 use lock::{LockEvent, LockMap, LockState};

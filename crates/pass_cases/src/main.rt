@@ -1,4 +1,6 @@
 //! Prints the reports on recorded passes that are kept as files, each read at one go and in small pieces.
+#![tactic(auto)]
+
 use passes::report;
 use std::fs::File;
 use std::io::Read;

@@ -4,7 +4,6 @@ ghost use Rattle.passes.specs.Texts.{head_text, line_text, pass_text, break_text
 
 use recordings::PassFault;
 use std::alloc::{AllocError, Global};
-use std::fmt;
 use std::fmt::Display;
 
 fn head_text(heap: Global, letter: char, count: usize) -> Result<String, AllocError>
@@ -13,7 +12,7 @@ fn head_text(heap: Global, letter: char, count: usize) -> Result<String, AllocEr
     format!(in heap; "PASS {letter} {count}\n")
 }
 
-fn push_line<D: Display>(text: &mut String, position: usize, state: &D) -> fmt::Result
+fn push_line<D: Display>(text: &mut String, position: usize, state: &D) -> Result<(), AllocError>
     ensures { (words : List ℕ) → D.Display.output state.now ≡ Some words → OnOk result (string_bytes text.new ≡ string_bytes text.old ++ line_text position words) }
 {
     write!(text, "{position} {state}\n")

@@ -1,4 +1,6 @@
 //! Reads the blocks of a recorded pass from standard input and prints the state behind each of its entries.
+#![tactic(auto)]
+
 use std::io::BufReader;
 
 fn run(rt: &HostRuntime) -> anyhow::Result<()> {

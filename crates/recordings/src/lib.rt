@@ -1,4 +1,6 @@
 //! A recorded pass as an input of blocks: read one after another, and loaded into a run.
+#![tactic(auto)]
+
 mod blocks;
 mod faults;
 mod loads;

@@ -1,5 +1,7 @@
 //! Walks a scheduler's way through a run of frame counts beside two servers in tandem, and prints the figures of each step
 //! beside the plain replay of the same entries.
+#![tactic(auto)]
+
 mod edits;
 mod pass;
 mod showing;

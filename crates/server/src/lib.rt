@@ -1,4 +1,6 @@
 //! The clock, and one server on it.
+#![tactic(auto)]
+
 mod clock;
 mod jobs;
 mod records;

@@ -1,4 +1,6 @@
 //! Summaries that join, stations that step, two kinds side by side, and records: the interfaces of the simulator.
+#![tactic(auto)]
+
 mod kinds;
 mod letters;
 mod paired_records;

@@ -1,4 +1,6 @@
 //! Two servers in tandem.
+#![tactic(auto)]
+
 mod counted;
 mod jobs;
 mod records;

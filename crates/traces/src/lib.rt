@@ -1,4 +1,6 @@
 //! Replay and joining: the calls that are one text for every kind of station.
+#![tactic(auto)]
+
 mod entries;
 mod joining;
 mod replaying;

@@ -1,4 +1,6 @@
 //! A tree of joins over given cells: a write joins anew only the cells above it, and a range is joined from few cells.
+#![tactic(auto)]
+
 mod capacity;
 mod emptying;
 mod filling;

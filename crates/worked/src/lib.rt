@@ -1,4 +1,6 @@
 //! The worked figures of the rules, as one theorem.
+#![tactic(auto)]
+
 ghost use Rattle.worked.specs.Worked.{WorkedFigures};
 
 // The figures follow from the definitions that the library's contracts cite.
