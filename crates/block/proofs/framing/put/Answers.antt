@@ -6,4 +6,4 @@ pub returns : goal.returns
 returns c =
     let at = c.args.at in
     let part = c.args.part.now in
-    put_mid-paste at (at + length part - at) c.args.bytes.now c.copy-from-slice.new.self part (length part) c.copy-from-slice.ensures.after (omega arith) refl
+    put_mid-paste at (at + length part - at) c.args.bytes.now c.copy_from_slice.new.self part (length part) c.copy_from_slice.ensures.after (omega arith) refl

@@ -18,15 +18,15 @@ returns g c =
     let letter = g.K.Recorded.records.letter in
     let rest = drop 512 c.args.memory.now in
     let end = 16 * length items - 0 in
-    let size : length bs ≡ 16 * length items = c.lay-items.ensures.size in
-    let content : take end c.lay-items.new.content ≡ bs = ap (take end) c.lay-items.ensures.content ∙ take_at bs _ end (omega arith) in
+    let size : length bs ≡ 16 * length items = c.lay_items.ensures.size in
+    let content : take end c.lay_items.new.content ≡ bs = ap (take end) c.lay_items.ensures.content ∙ take_at bs _ end (omega arith) in
     let count : length items ≡ length bs / 16 = omega arith in
     let byte = c.byte.ensures.is in
     let name = c.letter.ensures in
-    let block : framed c.byte.result (length items) 0 (take end c.lay-items.new.content) ≡ block_of (held_records letter bs) = cc in
-    let wrote = ap (λ b. b ++ rest) (c.copy-from-slice.ensures.after ∙ c.fill.ensures ∙ block) in
+    let block : framed c.byte.result (length items) 0 (take end c.lay_items.new.content) ≡ block_of (held_records letter bs) = cc in
+    let wrote = ap (λ b. b ++ rest) (c.copy_from_slice.ensures.after ∙ c.fill.ensures ∙ block) in
     record {
       is = grind (arith, nat_tests);
       memory = wrote;
-      back = λ _. data_back letter bs rest _ (length items) wrote (λ k. omega (arith, c.type-inv.memory k)) size (omega arith);
+      back = λ _. data_back letter bs rest _ (length items) wrote (λ k. omega (arith, c.type_inv.memory k)) size (omega arith);
     }

@@ -11,9 +11,9 @@ fill-requires c = record { whole = refl; zeros = refl; room = omega arith }
 pub returns : goal.returns
 returns c =
     let rest = drop 512 c.args.memory.now in
-    let wrote = ap (λ b. b ++ rest) (c.copy-from-slice.ensures.after ∙ c.fill.ensures) in
+    let wrote = ap (λ b. b ++ rest) (c.copy_from_slice.ensures.after ∙ c.fill.ensures) in
     record {
       is = grind (arith, nat_tests);
       memory = wrote;
-      back = λ _. note_back c.args.text.now rest _ wrote (λ k. omega (arith, c.type-inv.memory k)) (omega arith);
+      back = λ _. note_back c.args.text.now rest _ wrote (λ k. omega (arith, c.type_inv.memory k)) (omega arith);
     }

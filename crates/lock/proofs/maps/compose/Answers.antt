@@ -11,8 +11,8 @@ overflow-add-map c = omega (arith, compose_room c.args.earlier c.args.later c.lo
 pub loop-i-preserved : goal.loop-i-preserved
 loop-i-preserved c = (
   omega arith,
-  compose_turn c.args.earlier c.args.later c.loop-i.i c.loop-i.map c.image-of-between.result c.from.result
-      c.loop-i-test.true (c.image-of-between.ensures.is (omega arith)) (c.from.ensures ∙ c.image-of-end.ensures.is c.image-of-between.ensures.small) c.loop-i.invariant.1,
+  compose_turn c.args.earlier c.args.later c.loop-i.i c.loop-i.map c.image_of-between.result c.from.result
+      c.loop-i-test.true (c.image_of-between.ensures.is (omega arith)) (c.from.ensures ∙ c.image_of-end.ensures.is c.image_of-between.ensures.small) c.loop-i.invariant.1,
 )
 
 pub returns : goal.returns

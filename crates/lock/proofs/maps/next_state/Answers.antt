@@ -5,6 +5,6 @@ use Rattle.lock.proofs.maps.next_state.Goals as goal
 
 pub returns : goal.returns
 returns c = record {
-  is = λ h. c.image_of.ensures.is h ∙ ap (λ m. image m c.args.state) c.map-of.ensures ∙ letter_steps c.args.letter c.args.state (omega arith);
+  is = λ h. c.image_of.ensures.is h ∙ ap (λ m. image m c.args.state) c.map_of.ensures ∙ letter_steps c.args.letter c.args.state (omega arith);
   small = c.image_of.ensures.small;
 }

@@ -7,21 +7,21 @@ use Rattle.passes.proofs.reporting.report.Goals as goal
 
 pub returns-in-Data : goal.returns-in-Data
 returns-in-Data g c =
-    let hand = at_hand c.open-pass.new.blocks in
-    let begun = subst (BeginsBehindNotes hand) c.in-Data.is c.in-ok-letter.ensures in
-    told_kind begun.0 hand c.in-Data.letter c.in-Data.index string_bytes c.report-letter.result
-    begun.1.0 begun.1.1.0 begun.1.1.1 c.report-letter.ensures
+    let hand = at_hand c.open_pass.new.blocks in
+    let begun = subst (BeginsBehindNotes hand) c.in-Data.is c.in_ok-letter.ensures in
+    told_kind begun.0 hand c.in-Data.letter c.in-Data.index string_bytes c.report_letter.result
+    begun.1.0 begun.1.1.0 begun.1.1.1 c.report_letter.ensures
 
-pub returns-in-ok-fault-text : goal.returns-in-ok-fault-text
-returns-in-ok-fault-text g c =
-    let hand = at_hand c.open-pass.new.blocks in
-    let begun = subst (BeginsBehindNotes hand) c.in-Fault.is c.in-ok-letter.ensures in
-    told_fault begun.0 hand (string_bytes c.in-ok-fault-text.field-0) c.in-Fault.fault begun.1.1.0
-    begun.1.0 begun.1.1.1.0 begun.1.1.1.1 c.in-ok-fault-text.ensures
+pub returns-in_ok-fault_text : goal.returns-in_ok-fault_text
+returns-in_ok-fault_text g c =
+    let hand = at_hand c.open_pass.new.blocks in
+    let begun = subst (BeginsBehindNotes hand) c.in-Fault.is c.in_ok-letter.ensures in
+    told_fault begun.0 hand (string_bytes c.in_ok-fault_text.field-0) c.in-Fault.fault begun.1.1.0
+    begun.1.0 begun.1.1.1.0 begun.1.1.1.1 c.in_ok-fault_text.ensures
 
 pub returns-in-Nothing : goal.returns-in-Nothing
 unfolding encode
 returns-in-Nothing g c =
-    let hand = at_hand c.open-pass.new.blocks in
-    let begun = subst (BeginsBehindNotes hand) c.in-Nothing.is c.in-ok-letter.ensures in
-    told_nothing begun.0 string_bytes c.pass-text.result begun.1.0 (c.pass-text.ensures decimal (λ d. refl))
+    let hand = at_hand c.open_pass.new.blocks in
+    let begun = subst (BeginsBehindNotes hand) c.in-Nothing.is c.in_ok-letter.ensures in
+    told_nothing begun.0 string_bytes c.pass_text.result begun.1.0 (c.pass_text.ensures decimal (λ d. refl))

@@ -7,9 +7,9 @@ loop-position-init g c records given number calls met h = c.new-states.ensures.i
 
 pub loop-position-preserved : goal.loop-position-preserved
 loop-position-preserved g c =
-    states_turn c.args.run.now c.args.start c.in-ok-state.field-0 c.loop-position.position
+    states_turn c.args.run.now c.args.start c.in_ok-state.field-0 c.loop-position.position
     (vec_items c.loop-position.states) (vec_items c.push.new.self)
-    c.loop-position.invariant c.in-ok-state.ensures c.in-ok-push.ensures.items
+    c.loop-position.invariant c.in_ok-state.ensures c.in_ok-push.ensures.items
 
 pub returns : goal.returns
 returns g c =

@@ -14,15 +14,15 @@ loop-position-preserved g c = (
   λ text_of shown.
       let d = c.index-states-position.result in
       lines_turn text_of c.args.states.now c.loop-position.position d
-      (string_bytes c.in-ok-text.text) (string_bytes c.loop-position.text) (string_bytes c.push-line.new.text)
+      (string_bytes c.in_ok-text.text) (string_bytes c.loop-position.text) (string_bytes c.push_line.new.text)
       c.loop-position-test.true c.index-states-position.is (c.loop-position.invariant.1 text_of shown)
-      (c.in-ok-push-line.ensures (text_of d) (shown d)),
+      (c.in_ok-push_line.ensures (text_of d) (shown d)),
 )
 
 pub returns : goal.returns
 returns g c text_of shown =
     let ds = c.args.states.now in
     lines_end text_of ds c.loop-position.position (head_text (encode c.args.letter) (length ds)) (codes "END\n")
-    (string_bytes c.in-ok-text.text) (string_bytes c.loop-position.text) (string_bytes c.push-str.new.self)
-    c.loop-position-test.false c.in-ok-text.ensures (c.loop-position.invariant.1 text_of shown)
-    c.in-ok-push-str.ensures.bytes
+    (string_bytes c.in_ok-text.text) (string_bytes c.loop-position.text) (string_bytes c.push_str.new.self)
+    c.loop-position-test.false c.in_ok-text.ensures (c.loop-position.invariant.1 text_of shown)
+    c.in_ok-push_str.ensures.bytes

@@ -11,7 +11,7 @@ loop-index-init g c given number met = loading_starts c.args.first (at_hand c.ar
 pub loop-index-preserved : goal.loop-index-preserved
 loop-index-preserved g c given number met =
     loading_turn (at_hand c.advance.new.self) (c.loop-index.invariant given number met)
-    (subst (λ b. ServesBy g.K.Summary.joins g.K.Station.rules g.K.Recorded.records (Load b) c.loop-index.run c.load.new.self (Loaded c.in-default.field-0)) c.block.ensures c.in-default.ensures.serves)
+    (subst (λ b. ServesBy g.K.Summary.joins g.K.Station.rules g.K.Recorded.records (Load b) c.loop-index.run c.load.new.self (Loaded c.in_default.field-0)) c.block.ensures c.in_default.ensures.serves)
 
 pub returns-in-Err : goal.returns-in-Err
 returns-in-Err g c given number met =
@@ -21,4 +21,4 @@ returns-in-Err g c given number met =
 pub returns-then-not-branch : goal.returns-then-not-branch
 returns-then-not-branch g c given number met =
     loading_ends (c.loop-index.invariant given number met)
-    (subst (λ b. ServesBy g.K.Summary.joins g.K.Station.rules g.K.Recorded.records (Load b) c.loop-index.run c.load.new.self (Loaded c.in-default.field-0)) c.block.ensures c.in-default.ensures.serves)
+    (subst (λ b. ServesBy g.K.Summary.joins g.K.Station.rules g.K.Recorded.records (Load b) c.loop-index.run c.load.new.self (Loaded c.in_default.field-0)) c.block.ensures c.in_default.ensures.serves)

@@ -8,8 +8,8 @@ pub loop-entry-preserved : goal.loop-entry-preserved
 loop-entry-preserved g c = (
   omega arith,
   summarize_turn g.met.K.Summary.laws g.met.K.Station.steps g.met.K.Station.agreement
-      c.args.trace.now c.loop-entry.entry-index c.entry-item.result c.entry-summary.result c.loop-entry.sum c.join-sum.result
-      c.loop-entry-test.true c.entry-item.is c.loop-entry.invariant.1 c.entry-summary.ensures c.join-sum.ensures,
+      c.args.trace.now c.loop-entry.entry-index c.entry-item.result c.entry_summary.result c.loop-entry.sum c.join-sum.result
+      c.loop-entry-test.true c.entry-item.is c.loop-entry.invariant.1 c.entry_summary.ensures c.join-sum.ensures,
 )
 
 pub returns : goal.returns

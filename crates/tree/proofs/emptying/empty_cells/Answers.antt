@@ -26,5 +26,5 @@ emptied j n cells value after is empty wrote =
     }
 
 pub returns : goal.returns
-returns g c = emptied g.S.Summary.joins c.capacity-of-places.result c.args.cells.now c.empty.result c.fill.new.cells
-    c.capacity-of-places.ensures.is c.empty.ensures.is c.fill.ensures
+returns g c = emptied g.S.Summary.joins c.capacity_of-places.result c.args.cells.now c.empty.result c.fill.new.cells
+    c.capacity_of-places.ensures.is c.empty.ensures.is c.fill.ensures

@@ -14,7 +14,7 @@ returns-then-from-to-2 g c =
     let at = places_of cells + c.args.from in
     let size = c.args.to - c.args.from in
     let leaves = replicate size g.S.Summary.joins.empty in
-    let is = c.capacity-of-places.ensures.is in
+    let is = c.capacity_of-places.ensures.is in
     let room = c.if-to-places.false in
     let same = c.if-from-to-2.true in
     let none : 0 ≡ length leaves = omega (arith, length-replicate size g.S.Summary.joins.empty) in
@@ -23,8 +23,8 @@ returns-then-from-to-2 g c =
 
 pub rejoin-requires : goal.rejoin-requires
 rejoin-requires g c =
-    let n = c.capacity-of-places.result in
-    let largest = c.capacity-of-places.ensures.largest in
+    let n = c.capacity_of-places.result in
+    let largest = c.capacity_of-places.ensures.largest in
     let held = largest.held in
     let order = c.if-from-to.false in
     let some = c.if-from-to-2.false in
@@ -51,7 +51,7 @@ pub returns : goal.returns
 returns g c =
     let j = g.S.Summary.joins in
     let cells = c.args.cells.now in
-    let n = c.capacity-of-places.result in
+    let n = c.capacity_of-places.result in
     let from = c.args.from in
     let to = c.args.to in
     let leaves = replicate (to - from) j.empty in
@@ -60,6 +60,6 @@ returns g c =
     let some = c.if-from-to-2.false in
     let room = c.if-to-places.false in
     let long = length-replicate (to - from) j.empty in
-    leaves_written j n from to (n + to - 1) cells leaves after c.capacity-of-places.ensures.is (omega arith) (omega arith) (omega arith) (omega arith)
+    leaves_written j n from to (n + to - 1) cells leaves after c.capacity_of-places.ensures.is (omega arith) (omega arith) (omega arith) (omega arith)
     (subst (λ xs. Climbed j n (Within ((n + from) / 2) ((n + to - 1) / 2)) (Within 0 0) xs after)
     (filled cells n from to c.empty.result j.empty c.fill.new.cells c.empty.ensures.is c.fill.ensures) c.rejoin.ensures)

@@ -6,8 +6,8 @@ use Rattle.tree.proofs.leaves.write_leaf.Goals as goal
 
 pub rejoin-requires : goal.rejoin-requires
 rejoin-requires g c =
-    let n = c.capacity-of-places.result in
-    let largest = c.capacity-of-places.ensures.largest in
+    let n = c.capacity_of-places.result in
+    let largest = c.capacity_of-places.ensures.largest in
     let held = largest.held in
     let lt = c.if-place-places.false in
     let depth = leaves_depth (length c.args.cells.now) n largest (omega arith) in
@@ -19,5 +19,5 @@ rejoin-requires g c =
     }
 
 pub returns : goal.returns
-returns g c = leaf_written g.S.Summary.joins c.capacity-of-places.result c.args.place c.args.cells.now c.args.leaf c.rejoin.new.cells
-    c.capacity-of-places.ensures.is c.if-place-places.false c.rejoin.ensures
+returns g c = leaf_written g.S.Summary.joins c.capacity_of-places.result c.args.place c.args.cells.now c.args.leaf c.rejoin.new.cells
+    c.capacity_of-places.ensures.is c.if-place-places.false c.rejoin.ensures

@@ -17,6 +17,6 @@ loop-low-preserved g c =
     let held = c.requires.held in (
       omega arith,
       level_above l.low l.high l.invariant.1,
-      climbed_more g.S.Summary.joins c.args.places _ l.low l.high c.args.cells.now l.cells c.join-level.new.cells
-          (omega arith) lt (omega (arith, l.auto.cells)) c.join-level.ensures l.invariant.2,
+      climbed_more g.S.Summary.joins c.args.places _ l.low l.high c.args.cells.now l.cells c.join_level.new.cells
+          (omega arith) lt (omega (arith, l.auto.cells)) c.join_level.ensures l.invariant.2,
     )

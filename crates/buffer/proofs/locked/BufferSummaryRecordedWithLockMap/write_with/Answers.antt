@@ -7,5 +7,5 @@ use Rattle.buffer.proofs.locked.BufferSummaryRecordedWithLockMap.write_with.Goal
 pub returns : goal.returns
 unfolding zeros
 returns c =
-    let is : c.put-number.result ≡ locked_written c.args.item = simp (c.put-number.ensures, c.write-bytes.ensures.is, c.from-letter.ensures, c.letter.ensures) in
+    let is : c.put_number.result ≡ locked_written c.args.item = simp (c.put_number.ensures, c.write-bytes.ensures.is, c.from-letter.ensures, c.letter.ensures) in
     record { is = is; back = λ h. subst (λ bs. locked_read bs ≡ Ok c.args.item) (sym is) (locked_back c.args.item h) }

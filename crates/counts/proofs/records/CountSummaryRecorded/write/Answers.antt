@@ -7,5 +7,5 @@ use Rattle.counts.proofs.records.CountSummaryRecorded.write.Goals as goal
 pub returns : goal.returns
 unfolding zeros
 returns c =
-    let is : c.put-number.result ≡ frame_count_written c.args.item = simp (c.put-number.ensures, c.from-count.ensures) in
+    let is : c.put_number.result ≡ frame_count_written c.args.item = simp (c.put_number.ensures, c.from-count.ensures) in
     record { is = is; back = λ h. subst (λ bs. frame_count_read bs ≡ Ok c.args.item) (sym is) (frame_back c.args.item h) }

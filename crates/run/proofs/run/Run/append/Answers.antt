@@ -15,23 +15,23 @@ use Rattle.run.proofs.CellSteps.{same_places, kept_counts, leaf_push}
 use Rattle.run.proofs.Steps.{cells_were, within_were, stands_edited}
 use Rattle.run.proofs.run.Run.append.Goals as goal
 
-pub returns-then-is-some : goal.returns-then-is-some
-returns-then-is-some g c = record {
+pub returns-then-is_some : goal.returns-then-is_some
+returns-then-is_some g c = record {
   serves = λ records given number calls met counts.
       let t = after g.K.Summary.joins g.K.Station.rules (terms_of given number records) calls in
-      served_refused (Append c.args.item) (Refused TrialOpen) (is_tried t.tried c.args.self.now.trial _ _ met.trying (sym c.if-is-some.ensures)) met;
+      served_refused (Append c.args.item) (Refused TrialOpen) (is_tried t.tried c.args.self.now.trial _ _ met.trying (sym c.if-is_some.ensures)) met;
   refused = refl;
   same = refl;
 }
 
-pub returns-then-position-capacity-of : goal.returns-then-position-capacity-of
-returns-then-position-capacity-of g c = record {
+pub returns-then-position-capacity_of : goal.returns-then-position-capacity_of
+returns-then-position-capacity_of g c = record {
   serves = λ records given number calls met counts.
       let t = after g.K.Summary.joins g.K.Station.rules (terms_of given number records) calls in
-      let idle = not_tried t.tried c.args.self.now.trial met.trying (sym c.if-is-some.ensures) in
+      let idle = not_tried t.tried c.args.self.now.trial met.trying (sym c.if-is_some.ensures) in
       let size = met.counted in
-      let room : c.capacity-of.result ≡ places_of given = c.capacity-of.ensures.is ∙ same_places met.cells in
-      served_refused (Append c.args.item) (Refused NoRoom) (gate_shut t.tried (ltb (length t.entries) (places_of given)) _ _ _ idle (le-ltb (length t.entries) (places_of given) (omega (arith, c.if-position-capacity-of.true)))) met;
+      let room : c.capacity_of.result ≡ places_of given = c.capacity_of.ensures.is ∙ same_places met.cells in
+      served_refused (Append c.args.item) (Refused NoRoom) (gate_shut t.tried (ltb (length t.entries) (places_of given)) _ _ _ idle (le-ltb (length t.entries) (places_of given) (omega (arith, c.if-position-capacity_of.true)))) met;
   refused = refl;
   same = refl;
 }
@@ -50,19 +50,19 @@ returns g c = record {
       let es = t.entries in
       let size = met.counted in
       let within = within_were met in
-      let idle = not_tried t.tried run.trial met.trying (sym c.if-is-some.ensures) in
+      let idle = not_tried t.tried run.trial met.trying (sym c.if-is_some.ensures) in
       let kept = kept_counts laws steps agree (length es) t.tried met.trials in
       let item = c.args.item in
-      let s = c.of-item.result in
+      let s = c.of_item.result in
       let room : places_of cells ≡ places_of given = same_places met.cells in
-      let has = c.capacity-of.ensures.is in
-      let free : length es < places_of cells = omega (arith, c.if-position-capacity-of.false) in
-      let put = subst (λ p. Rejoined j (places_of cells) cells (with_leaf cells p s) c.write-leaf.new.cells) size (c.in-ok-write-leaf.ensures.granted refl) in
+      let has = c.capacity_of.ensures.is in
+      let free : length es < places_of cells = omega (arith, c.if-position-capacity_of.false) in
+      let put = subst (λ p. Rejoined j (places_of cells) cells (with_leaf cells p s) c.write_leaf.new.cells) size (c.in_ok-write_leaf.ensures.granted refl) in
       let long = length_push es (Item item) in
       served_granted (Append item) (AtPosition run.length) (trace (es ++ (Item item ∷ [])) t.tried)
       (gate_open t.tried (ltb (length es) (places_of given)) _ _ _ idle (lt-ltb (length es) (places_of given) (omega arith)) ∙ ap (λ n. Grant (AtPosition n) (trace (es ++ (Item item ∷ [])) t.tried)) (sym size))
       (stands_edited met (es ++ (Item item ∷ [])) _ idle refl refl (omega arith) (omega arith) (All-push (EntryCounts k) es (Item item) met.items counts)
-      (leaf_push laws steps agree (cells_were met) (Item item) s free put met.items counts kept (sym (c.of-item.ensures counts).is)));
+      (leaf_push laws steps agree (cells_were met) (Item item) s free put met.items counts kept (sym (c.of_item.ensures counts).is)));
   refused = tt;
   same = refl;
 }

@@ -14,11 +14,11 @@ use Rattle.run.proofs.CellSteps.{kept_counts, leaves_cut}
 use Rattle.run.proofs.Steps.{cells_were, within_were, stands_edited}
 use Rattle.run.proofs.run.Run.cut.Goals as goal
 
-pub returns-then-is-some : goal.returns-then-is-some
-returns-then-is-some g c = record {
+pub returns-then-is_some : goal.returns-then-is_some
+returns-then-is_some g c = record {
   serves = λ records given number calls met counts.
       let t = after g.K.Summary.joins g.K.Station.rules (terms_of given number records) calls in
-      served_refused (Cut c.args.kept) (Refused TrialOpen) (is_tried t.tried c.args.self.now.trial _ _ met.trying (sym c.if-is-some.ensures)) met;
+      served_refused (Cut c.args.kept) (Refused TrialOpen) (is_tried t.tried c.args.self.now.trial _ _ met.trying (sym c.if-is_some.ensures)) met;
   refused = refl;
   same = refl;
 }
@@ -27,7 +27,7 @@ pub returns-then-kept-length : goal.returns-then-kept-length
 returns-then-kept-length g c = record {
   serves = λ records given number calls met counts.
       let t = after g.K.Summary.joins g.K.Station.rules (terms_of given number records) calls in
-      let idle = not_tried t.tried c.args.self.now.trial met.trying (sym c.if-is-some.ensures) in
+      let idle = not_tried t.tried c.args.self.now.trial met.trying (sym c.if-is_some.ensures) in
       let size = met.counted in
       served_refused (Cut c.args.kept) (Refused NoSuchPosition) (gate_shut t.tried (leb c.args.kept (length t.entries)) _ _ _ idle (lt-leb c.args.kept (length t.entries) (omega (arith, c.if-kept-length.true)))) met;
   refused = refl;
@@ -48,11 +48,11 @@ returns g c = record {
       let es = t.entries in
       let size = met.counted in
       let within = within_were met in
-      let idle = not_tried t.tried run.trial met.trying (sym c.if-is-some.ensures) in
+      let idle = not_tried t.tried run.trial met.trying (sym c.if-is_some.ensures) in
       let kept = kept_counts laws steps agree (length es) t.tried met.trials in
       let n = c.args.kept in
       let le : n ≤ length es = omega (arith, c.if-kept-length.false) in
-      let put = subst (λ m. Rejoined j (places_of cells) cells (without_leaves j cells n m) c.clear-leaves.new.cells) size (c.in-ok-clear-leaves.ensures.granted refl) in
+      let put = subst (λ m. Rejoined j (places_of cells) cells (without_leaves j cells n m) c.clear_leaves.new.cells) size (c.in_ok-clear_leaves.ensures.granted refl) in
       let long = length-take-le n es le in
       served_granted (Cut n) Done (trace (take n es) t.tried)
       (gate_open t.tried (leb n (length es)) _ _ _ idle (le-leb n (length es) le))

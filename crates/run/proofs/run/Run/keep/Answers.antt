@@ -8,14 +8,14 @@ use Rattle.run.proofs.CellSteps.{leaf_kept}
 use Rattle.run.proofs.Steps.{cells_were, within_were, stands_as}
 use Rattle.run.proofs.run.Run.keep.Goals as goal
 
-pub returns-then-is-none : goal.returns-then-is-none
-returns-then-is-none g c = record {
+pub returns-then-is_none : goal.returns-then-is_none
+returns-then-is_none g c = record {
   serves = λ records given number calls met counts.
       let run = c.args.self.now in
       let shown = c.args.ticket.number in
       let t = after g.K.Summary.joins g.K.Station.rules (terms_of given number records) calls in
       served_refused (Keep shown) (Refused NothingToSettle)
-      (unsettled t.tried run number shown _ met.trying met.numbered (sym c.tried-by.ensures ∙ is_nothing c.tried-by.result c.if-is-none.ensures)) met;
+      (unsettled t.tried run number shown _ met.trying met.numbered (sym c.tried_by.ensures ∙ is_nothing c.tried_by.result c.if-is_none.ensures)) met;
   refused = (refl, refl);
   same = refl;
 }
@@ -35,13 +35,13 @@ returns g c = record {
       let size = met.counted in
       let within = within_were met in
       let shown = c.args.ticket.number in
-      let found = is_something c.tried-by.result c.if-is-none.ensures in
-      let s = settling t.tried run number shown found.0 met.trying met.numbered (sym c.tried-by.ensures ∙ found.1) in
+      let found = is_something c.tried_by.result c.if-is_none.ensures in
+      let s = settling t.tried run number shown found.0 met.trying met.numbered (sym c.tried_by.ensures ∙ found.1) in
       let was = subst (TrialCounts k (length es)) s.tried met.trials in
       let lt = was.0 in
       served_granted (Keep shown) Done (trace es None) (settles (λ p. Grant Done (trace es None)) s)
       (stands_as met (trace es None) _ refl refl size within met.items tt
-      (leaf_kept laws steps agree (cells_were met) es refl (omega arith) c.release-leaf.ensures));
+      (leaf_kept laws steps agree (cells_were met) es refl (omega arith) c.release_leaf.ensures));
   refused = tt;
   same = refl;
 }

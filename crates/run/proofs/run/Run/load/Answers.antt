@@ -25,29 +25,29 @@ use Rattle.run.proofs.Steps.{cells_were, stands_edited}
 use Rattle.run.proofs.Loads.{room_found, room_wanting, load_fault_lem, load_full, load_granted}
 use Rattle.run.proofs.run.Run.load.Goals as goal
 
-pub returns-then-is-some : goal.returns-then-is-some
-returns-then-is-some g c = record {
+pub returns-then-is_some : goal.returns-then-is_some
+returns-then-is_some g c = record {
   serves = λ given number calls met counts.
       let run = c.args.self.now in
       let t = after g.K.Summary.joins g.K.Station.rules (terms_of given number g.K.Recorded.records) calls in
       served_refused (Load c.args.bytes.now) (NotLoaded (load_fault cause.TrialOpen run.length))
-      (is_tried t.tried run.trial _ _ met.trying (sym c.if-is-some.ensures) ∙ ap (λ n. Refuse (NotLoaded (load_fault cause.TrialOpen n))) (sym met.counted)) met;
+      (is_tried t.tried run.trial _ _ met.trying (sym c.if-is_some.ensures) ∙ ap (λ n. Refuse (NotLoaded (load_fault cause.TrialOpen n))) (sym met.counted)) met;
   refused = refl;
   same = refl;
 }
 
-pub returns-in-err-records : goal.returns-in-err-records
-returns-in-err-records g c =
+pub returns-in_err-records : goal.returns-in_err-records
+returns-in_err-records g c =
     let run = c.args.self.now in
     let r = g.K.Recorded.records in
     let p = err_from_is_err_and c.from-residual.result c.from-residual.ensures.1 in
     record {
       serves = λ given number calls met counts.
           let t = after g.K.Summary.joins g.K.Station.rules (terms_of given number r) calls in
-          let idle = not_tried t.tried run.trial met.trying (sym c.if-is-some.ensures) in
-          let f = c.in-err-records.field-0.0 in
+          let idle = not_tried t.tried run.trial met.trying (sym c.if-is_some.ensures) in
+          let f = c.in_err-records.field-0.0 in
           let is : block_items r (length t.entries) (read_of c.args.bytes.now) ≡ Err f =
-          ap (λ n. block_items r n (read_of c.args.bytes.now)) (sym met.counted) ∙ items_refused r run.length (read_of c.args.bytes.now) f c.in-err-records.ensures in
+          ap (λ n. block_items r n (read_of c.args.bytes.now)) (sym met.counted) ∙ items_refused r run.length (read_of c.args.bytes.now) f c.in_err-records.ensures in
           let same : c.from-residual.result ≡ Err f = (let e = p.1 in let y = p.2 in cc) in
           served_refused (Load c.args.bytes.now) (load_answer c.from-residual.result)
           (load_fault_lem (places_of given) t _ (block_items r (length t.entries) (read_of c.args.bytes.now)) idle f is ∙ ap (λ x. Refuse (load_answer x)) (sym same)) met;
@@ -55,21 +55,21 @@ returns-in-err-records g c =
       same = refl;
     }
 
-pub returns-then-is-err : goal.returns-then-is-err
-returns-then-is-err g c =
+pub returns-then-is_err : goal.returns-then-is_err
+returns-then-is_err g c =
     let j = g.K.Summary.joins in
     let k = g.K.Station.rules in
     let run = c.args.self.now in
     let cells = run.cells.now in
     let r = g.K.Recorded.records in
-    let bs = c.in-ok-records.records.now in
-    let fail = room_wanting (leb (run.length + length bs / 16) (places_of cells)) c.append-records.result c.append-records.ensures.is (sym c.is-err.ensures.value ∙ c.if-is-err.true) in
-    let left = ap (λ xs. record { cells = set_vals xs run.cells; length = run.length; number = run.number; trial = run.trial }) (c.append-records.ensures.refused fail.1) in
+    let bs = c.in_ok-records.records.now in
+    let fail = room_wanting (leb (run.length + length bs / 16) (places_of cells)) c.append_records.result c.append_records.ensures.is (sym c.is_err.ensures.value ∙ c.if-is_err.true) in
+    let left = ap (λ xs. record { cells = set_vals xs run.cells; length = run.length; number = run.number; trial = run.trial }) (c.append_records.ensures.refused fail.1) in
     record {
       serves = λ given number calls met counts.
           let t = after j k (terms_of given number r) calls in
-          let idle = not_tried t.tried run.trial met.trying (sym c.if-is-some.ensures) in
-          let b = items_brought r run.length (read_of c.args.bytes.now) bs c.in-ok-records.ensures in
+          let idle = not_tried t.tried run.trial met.trying (sym c.if-is_some.ensures) in
+          let b = items_brought r run.length (read_of c.args.bytes.now) bs c.in_ok-records.ensures in
           let size = items_size r bs b.items b.read in
           let same = same_places met.cells in
           let is : block_items r (length t.entries) (read_of c.args.bytes.now) ≡ Ok b.items =
@@ -87,9 +87,9 @@ returns-then-is-err g c =
 pub overflow-add-self : goal.overflow-add-self
 overflow-add-self g c =
     let cells = c.args.self.now.cells.now in
-    let bs = c.in-ok-records.records.now in
+    let bs = c.in_ok-records.records.now in
     let test = leb (c.args.self.now.length + length bs / 16) (places_of cells) in
-    let fits = room_found test c.append-records.result c.append-records.ensures.is (sym c.is-err.ensures.value ∙ c.if-is-err.false) in
+    let fits = room_found test c.append_records.result c.append_records.ensures.is (sym c.is_err.ensures.value ∙ c.if-is_err.false) in
     let le = leb-true (c.args.self.now.length + length bs / 16) (places_of cells) fits.0 in
     let small = (capacity_room (length cells)).small in
     omega arith
@@ -105,21 +105,21 @@ returns g c = record {
       let run = c.args.self.now in
       let cells = run.cells.now in
       let r = g.K.Recorded.records in
-      let bs = c.in-ok-records.records.now in
+      let bs = c.in_ok-records.records.now in
       let t = after j k (terms_of given number r) calls in
       let es = t.entries in
-      let idle = not_tried t.tried run.trial met.trying (sym c.if-is-some.ensures) in
+      let idle = not_tried t.tried run.trial met.trying (sym c.if-is_some.ensures) in
       let kept = kept_counts laws steps agree (length es) t.tried met.trials in
-      let b = items_brought r run.length (read_of c.args.bytes.now) bs c.in-ok-records.ensures in
+      let b = items_brought r run.length (read_of c.args.bytes.now) bs c.in_ok-records.ensures in
       let new = b.items in
       let size = items_size r bs new b.read in
       let same = same_places met.cells in
       let counted = met.counted in
       let is : block_items r (length es) (read_of c.args.bytes.now) ≡ Ok new = ap (λ n. block_items r n (read_of c.args.bytes.now)) (sym counted) ∙ b.brought in
-      let fits = room_found (leb (run.length + length bs / 16) (places_of cells)) c.append-records.result c.append-records.ensures.is (sym c.is-err.ensures.value ∙ c.if-is-err.false) in
+      let fits = room_found (leb (run.length + length bs / 16) (places_of cells)) c.append_records.result c.append_records.ensures.is (sym c.is_err.ensures.value ∙ c.if-is_err.false) in
       let le = leb-true (run.length + length bs / 16) (places_of cells) fits.0 in
-      let granted = c.append-records.ensures.granted fits.1 new b.read in
-      let put = subst (λ p. Rejoined j (places_of cells) cells (with_leaves cells p (map k.of_item new)) c.append-records.new.cells) counted granted.1 in
+      let granted = c.append_records.ensures.granted fits.1 new b.read in
+      let put = subst (λ p. Rejoined j (places_of cells) cells (with_leaves cells p (map k.of_item new)) c.append_records.new.cells) counted granted.1 in
       let more : length (map Item new) ≡ length new = length-map new Item in
       let long = length-append es (map Item new) in
       served_granted (Load c.args.bytes.now) (Loaded (length bs / 16)) (trace (es ++ map Item new) t.tried)

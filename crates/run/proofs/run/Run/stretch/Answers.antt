@@ -33,14 +33,14 @@ returns g c =
     let agree = g.met.K.Station.agreement in
     let from = c.args.from in
     let to = c.args.to in
-    let r = c.join-leaves.result in
+    let r = c.join_leaves.result in
     record {
       serves = λ records given number calls met counts.
           let t = after j k (terms_of given number records) calls in
           let n = length t.entries in
           let size = met.counted in
           let le : to ≤ n = omega (arith, c.if-to-self.false) in
-          elim (stretch_is met from to r le c.join-leaves.ensures) [
+          elim (stretch_is met from to r le c.join_leaves.ensures) [
             | inl p ↦ served_granted (AskStretch from to) (answer_by SummaryIs r) t
                 (cond-true _ _ _ (and_from (leb from to) (leb to n) (le-leb from to p.0) (le-leb to n le)) ∙ ap (λ x. Grant (answer_by SummaryIs x) t) (sym p.1)) met
             | inr p ↦ served_refused (AskStretch from to) (answer_by SummaryIs r)
@@ -51,7 +51,7 @@ returns g c =
           let size = met.counted in
           let le : to ≤ length t.entries = omega (arith, c.if-to-self.false) in
           let all = All-take (EntryCounts k) (to - from) (drop from t.entries) (All-drop (EntryCounts k) from t.entries met.items) in
-          elim (stretch_is met from to r le c.join-leaves.ensures) [
+          elim (stretch_is met from to r le c.join_leaves.ensures) [
             | inl p ↦ subst (λ x. StretchReplays k from to x t) (sym p.1) (λ d h. piece_effect laws steps agree (piece t.entries from to) d h all)
             | inr p ↦ subst (λ x. StretchReplays k from to x t) (sym p.1) tt
           ];

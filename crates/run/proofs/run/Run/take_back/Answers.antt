@@ -14,14 +14,14 @@ use Rattle.run.proofs.CellSteps.{leaf_restored}
 use Rattle.run.proofs.Steps.{cells_were, within_were, stands_as, refused_by}
 use Rattle.run.proofs.run.Run.take_back.Goals as goal
 
-pub returns-in-default : goal.returns-in-default
-returns-in-default g c = record {
+pub returns-in_default : goal.returns-in_default
+returns-in_default g c = record {
   serves = λ records given number calls met counts.
       let run = c.args.self.now in
       let shown = c.args.ticket.number in
       let t = after g.K.Summary.joins g.K.Station.rules (terms_of given number records) calls in
       served_refused (TakeBack shown) (Refused NothingToSettle)
-      (unsettled t.tried run number shown _ met.trying met.numbered (sym c.tried-by.ensures ∙ c.in-default.is)) met;
+      (unsettled t.tried run number shown _ met.trying met.numbered (sym c.tried_by.ensures ∙ c.in_default.is)) met;
   refused = (refl, refl);
   same = refl;
 }
@@ -31,12 +31,12 @@ returns-in-Err g c =
     let run = c.args.self.now in
     let cells = run.cells.now in
     let i = c.in-Some.position in
-    let no = refused_by (ltb i (places_of cells)) c.restore-leaf.result c.in-Err.refusal c.restore-leaf.ensures.is c.in-Err.is in
-    let left = c.restore-leaf.ensures.refused no.0 in
+    let no = refused_by (ltb i (places_of cells)) c.restore_leaf.result c.in-Err.refusal c.restore_leaf.ensures.is c.in-Err.is in
+    let left = c.restore_leaf.ensures.refused no.0 in
     record {
       serves = λ records given number calls met counts.
           let t = after g.K.Summary.joins g.K.Station.rules (terms_of given number records) calls in
-          let s = settling t.tried run number c.args.ticket.number i met.trying met.numbered (sym c.tried-by.ensures ∙ c.in-Some.is) in
+          let s = settling t.tried run number c.args.ticket.number i met.trying met.numbered (sym c.tried_by.ensures ∙ c.in-Some.is) in
           let was = subst (TrialCounts g.K.Station.rules (length t.entries)) s.tried met.trials in
           let lt = was.0 in
           let within = within_were met in
@@ -61,13 +61,13 @@ returns g c = record {
       let within = within_were met in
       let shown = c.args.ticket.number in
       let i = c.in-Some.position in
-      let s = settling t.tried run number shown i met.trying met.numbered (sym c.tried-by.ensures ∙ c.in-Some.is) in
+      let s = settling t.tried run number shown i met.trying met.numbered (sym c.tried_by.ensures ∙ c.in-Some.is) in
       let old = s.old in
       let was = subst (TrialCounts k (length es)) s.tried met.trials in
       let long = length-set es i old in
       served_granted (TakeBack shown) Done (trace (set es i old) None) (settles (λ p. Grant Done (trace (set es p.place p.old) None)) s)
       (stands_as met (trace (set es i old) None) _ refl refl (size ∙ sym long) (omega arith) (All-set (EntryCounts k) es i old was.1 met.items) tt
-      (leaf_restored laws steps agree (cells_were met) old i was.0 within s.tried (c.in-default-restore-leaf.ensures.granted refl) met.items was.1));
+      (leaf_restored laws steps agree (cells_were met) old i was.0 within s.tried (c.in_default-restore_leaf.ensures.granted refl) met.items was.1));
   refused = tt;
   same = refl;
 }

@@ -13,11 +13,11 @@ use Rattle.run.proofs.CellSteps.{leaf_tried}
 use Rattle.run.proofs.Steps.{cells_were, within_were, stands_as}
 use Rattle.run.proofs.run.Run.trial.Goals as goal
 
-pub returns-then-is-some : goal.returns-then-is-some
-returns-then-is-some g c = record {
+pub returns-then-is_some : goal.returns-then-is_some
+returns-then-is_some g c = record {
   serves = λ records given number calls met counts.
       let t = after g.K.Summary.joins g.K.Station.rules (terms_of given number records) calls in
-      served_refused (Try c.args.position c.args.item) (Refused TrialOpen) (is_tried t.tried c.args.self.now.trial _ _ met.trying (sym c.if-is-some.ensures)) met;
+      served_refused (Try c.args.position c.args.item) (Refused TrialOpen) (is_tried t.tried c.args.self.now.trial _ _ met.trying (sym c.if-is_some.ensures)) met;
   refused = refl;
   same = refl;
 }
@@ -26,7 +26,7 @@ pub returns-then-position-self : goal.returns-then-position-self
 returns-then-position-self g c = record {
   serves = λ records given number calls met counts.
       let t = after g.K.Summary.joins g.K.Station.rules (terms_of given number records) calls in
-      let idle = not_tried t.tried c.args.self.now.trial met.trying (sym c.if-is-some.ensures) in
+      let idle = not_tried t.tried c.args.self.now.trial met.trying (sym c.if-is_some.ensures) in
       let size = met.counted in
       served_refused (Try c.args.position c.args.item) (Refused NoSuchPosition) (gate_shut t.tried (ltb c.args.position (length t.entries)) _ _ _ idle (le-ltb c.args.position (length t.entries) (omega (arith, c.if-position-self.true)))) met;
   refused = refl;
@@ -47,7 +47,7 @@ returns g c = record {
       let es = t.entries in
       let size = met.counted in
       let within = within_were met in
-      let idle = not_tried t.tried run.trial met.trying (sym c.if-is-some.ensures) in
+      let idle = not_tried t.tried run.trial met.trying (sym c.if-is_some.ensures) in
       let p = c.args.position in
       let e = Item c.args.item in
       let old = get_or es p Withdrawn in
@@ -58,7 +58,7 @@ returns g c = record {
       (gate_open t.tried (ltb p (length es)) _ _ _ idle (lt-ltb p (length es) lt) ∙ ap (λ n. Grant (Granted n) u) (sym met.numbered))
       (stands_as met u _ refl refl (omega arith) (omega arith) (All-set (EntryCounts k) es p e counts met.items)
       (omega arith, All-get_or (EntryCounts k) es p Withdrawn lt met.items)
-      (leaf_tried laws steps agree (cells_were met) e p c.of-item.result lt within (c.in-ok-try-leaf.ensures.granted refl) met.items counts (sym (c.of-item.ensures counts).is)));
+      (leaf_tried laws steps agree (cells_were met) e p c.of_item.result lt within (c.in_ok-try_leaf.ensures.granted refl) met.items counts (sym (c.of_item.ensures counts).is)));
   refused = tt;
   same = refl;
 }

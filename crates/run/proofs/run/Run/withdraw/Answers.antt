@@ -13,11 +13,11 @@ use Rattle.run.proofs.CellSteps.{kept_counts, leaf_set}
 use Rattle.run.proofs.Steps.{cells_were, within_were, stands_edited}
 use Rattle.run.proofs.run.Run.withdraw.Goals as goal
 
-pub returns-then-is-some : goal.returns-then-is-some
-returns-then-is-some g c = record {
+pub returns-then-is_some : goal.returns-then-is_some
+returns-then-is_some g c = record {
   serves = λ records given number calls met counts.
       let t = after g.K.Summary.joins g.K.Station.rules (terms_of given number records) calls in
-      served_refused (Withdraw c.args.position) (Refused TrialOpen) (is_tried t.tried c.args.self.now.trial _ _ met.trying (sym c.if-is-some.ensures)) met;
+      served_refused (Withdraw c.args.position) (Refused TrialOpen) (is_tried t.tried c.args.self.now.trial _ _ met.trying (sym c.if-is_some.ensures)) met;
   refused = refl;
   same = refl;
 }
@@ -26,7 +26,7 @@ pub returns-then-position-self : goal.returns-then-position-self
 returns-then-position-self g c = record {
   serves = λ records given number calls met counts.
       let t = after g.K.Summary.joins g.K.Station.rules (terms_of given number records) calls in
-      let idle = not_tried t.tried c.args.self.now.trial met.trying (sym c.if-is-some.ensures) in
+      let idle = not_tried t.tried c.args.self.now.trial met.trying (sym c.if-is_some.ensures) in
       let size = met.counted in
       served_refused (Withdraw c.args.position) (Refused NoSuchPosition) (gate_shut t.tried (ltb c.args.position (length t.entries)) _ _ _ idle (le-ltb c.args.position (length t.entries) (omega (arith, c.if-position-self.true)))) met;
   refused = refl;
@@ -47,7 +47,7 @@ returns g c = record {
       let es = t.entries in
       let size = met.counted in
       let within = within_were met in
-      let idle = not_tried t.tried run.trial met.trying (sym c.if-is-some.ensures) in
+      let idle = not_tried t.tried run.trial met.trying (sym c.if-is_some.ensures) in
       let kept = kept_counts laws steps agree (length es) t.tried met.trials in
       let p = c.args.position in
       let e = Withdrawn in
@@ -57,7 +57,7 @@ returns g c = record {
       served_granted (Withdraw c.args.position) Done (trace (set es p e) t.tried)
       (gate_open t.tried (ltb p (length es)) _ _ _ idle (lt-ltb p (length es) lt))
       (stands_edited met (set es p e) _ idle refl refl (omega arith) (omega arith) (All-set (EntryCounts k) es p e tt met.items)
-      (leaf_set laws steps agree (cells_were met) e p s lt within (c.in-ok-write-leaf.ensures.granted refl) met.items tt kept (sym c.empty.ensures.is)));
+      (leaf_set laws steps agree (cells_were met) e p s lt within (c.in_ok-write_leaf.ensures.granted refl) met.items tt kept (sym c.empty.ensures.is)));
   refused = tt;
   same = refl;
 }

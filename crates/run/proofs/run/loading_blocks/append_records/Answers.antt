@@ -19,22 +19,22 @@ returns g c =
     let before = c.args.cells.now in
     let first = c.args.first in
     let count = length bs / 16 in
-    let wrote = c.lay-records.new.cells in
+    let wrote = c.lay_records.new.cells in
     let n = places_of before in
-    let places : c.capacity-of-places.result ≡ n = c.capacity-of-places.ensures.is in
-    let held = c.capacity-of-places.ensures.largest.held in
+    let places : c.capacity_of-places.result ≡ n = c.capacity_of-places.ensures.is in
+    let held = c.capacity_of-places.ensures.largest.held in
     let low = c.if-first-places.false in
     let room = c.if-count-places.false in
     let fits : first + count ≤ n = omega arith in
-    let same_places : places_of wrote ≡ n = ap capacity c.lay-records.ensures.long in
-    let done : c.rejoin-leaves.result ≡ Ok tt = c.rejoin-leaves.ensures.is ∙ in_range j wrote first (first + count) (omega arith) (omega arith) in
+    let same_places : places_of wrote ≡ n = ap capacity c.lay_records.ensures.long in
+    let done : c.rejoin_leaves.result ≡ Ok tt = c.rejoin_leaves.ensures.is ∙ in_range j wrote first (first + count) (omega arith) (omega arith) in
     record {
       is = done ∙ sym (cond-true _ _ _ (le-leb (first + count) n fits));
       refused = λ no. let z : ◌≡◌ {A = ℕ} 0 1 = cc in absurd (omega arith);
       granted = λ _ is e.
           let size = items_size r bs is e in
           let sized : length (map f is) ≡ length is = length-map is f in
-          let laid : wrote ≡ with_leaves before first (map f is) = c.lay-records.ensures.laid is e ∙ ap (λ m. paste before (m + first) (map f is) (length (map f is))) places in
+          let laid : wrote ≡ with_leaves before first (map f is) = c.lay_records.ensures.laid is e ∙ ap (λ m. paste before (m + first) (map f is) (length (map f is))) places in
           let within : n + first + length (map f is) ≤ length before = omega arith in
           let enough : length (map f is) ≤ length (map f is) = omega arith in
           let outside : (k : ℕ) → (k < places_of wrote + first) ⊎ (places_of wrote + (first + count) ≤ k) → cell j wrote k ≡ cell j before k = λ k h.
@@ -42,8 +42,8 @@ returns g c =
             | inl low ↦ paste_before before (n + first) (map f is) (length (map f is)) j.empty within enough k (omega arith)
             | inr high ↦ paste_behind before (n + first) (map f is) (length (map f is)) j.empty within enough k (omega arith)
           ] in
-          let put = c.rejoin-leaves.ensures.granted done before (record { long = c.lay-records.ensures.long; same = outside }) in (
-            items_count r bs is e g.met.K.Recorded.recording (λ i. omega (arith, c.type-inv.records i)),
-            subst (λ w. Rejoined j n before w c.rejoin-leaves.new.cells) laid (subst (λ m. Rejoined j m before wrote c.rejoin-leaves.new.cells) same_places put),
+          let put = c.rejoin_leaves.ensures.granted done before (record { long = c.lay_records.ensures.long; same = outside }) in (
+            items_count r bs is e g.met.K.Recorded.recording (λ i. omega (arith, c.type_inv.records i)),
+            subst (λ w. Rejoined j n before w c.rejoin_leaves.new.cells) laid (subst (λ m. Rejoined j m before wrote c.rejoin_leaves.new.cells) same_places put),
           );
     }

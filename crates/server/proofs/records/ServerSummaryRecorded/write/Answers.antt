@@ -7,5 +7,5 @@ use Rattle.server.proofs.records.ServerSummaryRecorded.write.Goals as goal
 pub returns : goal.returns
 unfolding zeros
 returns c =
-    let is : c.put-number.result ≡ job_written c.args.item = simp (c.put-number.ensures, c.put-number-bytes.ensures, c.from-service.ensures) in
+    let is : c.put_number.result ≡ job_written c.args.item = simp (c.put_number.ensures, c.put_number-bytes.ensures, c.from-service.ensures) in
     record { is = is; back = λ h. subst (λ bs. job_read bs ≡ Ok c.args.item) (sym is) (job_back c.args.item h) }

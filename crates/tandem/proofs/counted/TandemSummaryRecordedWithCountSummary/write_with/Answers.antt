@@ -7,5 +7,5 @@ use Rattle.tandem.proofs.counted.TandemSummaryRecordedWithCountSummary.write_wit
 pub returns : goal.returns
 unfolding zeros
 returns c =
-    let is : c.put-number.result ≡ counted_written c.args.item = simp (c.put-number.ensures, c.write-bytes.ensures.is, c.from-count.ensures, c.count.ensures) in
+    let is : c.put_number.result ≡ counted_written c.args.item = simp (c.put_number.ensures, c.write-bytes.ensures.is, c.from-count.ensures, c.count.ensures) in
     record { is = is; back = λ h. subst (λ bs. counted_read bs ≡ Ok c.args.item) (sym is) (counted_back c.args.item h) }

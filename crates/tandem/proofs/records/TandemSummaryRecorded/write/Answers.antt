@@ -7,6 +7,6 @@ use Rattle.tandem.proofs.records.TandemSummaryRecorded.write.Goals as goal
 pub returns : goal.returns
 unfolding zeros
 returns c =
-    let is : c.put-number.result ≡ tandem_job_written c.args.item =
-    simp (c.put-number.ensures, c.put-number-bytes-2.ensures, c.put-number-bytes.ensures, c.from-first.ensures, c.from-second.ensures) in
+    let is : c.put_number.result ≡ tandem_job_written c.args.item =
+    simp (c.put_number.ensures, c.put_number-bytes-2.ensures, c.put_number-bytes.ensures, c.from-first.ensures, c.from-second.ensures) in
     record { is = is; back = λ h. subst (λ bs. tandem_job_read bs ≡ Ok c.args.item) (sym is) (tandem_job_back c.args.item h) }
