@@ -5,8 +5,8 @@ use Rattle.block.specs.Layout.{framed}
 use Rattle.block.proofs.Checks.{weighed_step, weighed_end}
 use Rattle.block.proofs.check.check_of.Goals as goal
 
-pub overflow-add-sum-in-loop-i : goal.overflow-add-sum-in-loop-i
-overflow-add-sum-in-loop-i c = omega (arith, mul-le (c.loop-i.i + 1) c.from.result 508 255 (omega arith) (omega arith))
+pub overflow_add-sum-in-loop-i : goal.overflow_add-sum-in-loop-i
+overflow_add-sum-in-loop-i c = omega (arith, mul-le (c.loop-i.i + 1) c.from.result 508 255 (omega arith) (omega arith))
 
 pub loop-i-preserved : goal.loop-i-preserved
 loop-i-preserved c =

@@ -2,11 +2,11 @@ use Rattle.std.proofs.Common.{◌∙◌, arith}
 use Rattle.lock.specs.MapLaws.{compose_room, compose_turn, compose_all}
 use Rattle.lock.proofs.maps.compose.Goals as goal
 
-pub overflow-mul-map : goal.overflow-mul-map
-overflow-mul-map c = omega (arith, compose_room c.args.earlier c.args.later c.loop-i.i c.loop-i.map c.loop-i-test.true c.loop-i.invariant.1)
+pub overflow_mul-map : goal.overflow_mul-map
+overflow_mul-map c = omega (arith, compose_room c.args.earlier c.args.later c.loop-i.i c.loop-i.map c.loop-i-test.true c.loop-i.invariant.1)
 
-pub overflow-add-map : goal.overflow-add-map
-overflow-add-map c = omega (arith, compose_room c.args.earlier c.args.later c.loop-i.i c.loop-i.map c.loop-i-test.true c.loop-i.invariant.1)
+pub overflow_add-map : goal.overflow_add-map
+overflow_add-map c = omega (arith, compose_room c.args.earlier c.args.later c.loop-i.i c.loop-i.map c.loop-i-test.true c.loop-i.invariant.1)
 
 pub loop-i-preserved : goal.loop-i-preserved
 loop-i-preserved c = (

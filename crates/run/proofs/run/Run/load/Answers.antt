@@ -84,8 +84,8 @@ returns-then-is_err g c =
       same = refl;
     }
 
-pub overflow-add-self : goal.overflow-add-self
-overflow-add-self g c =
+pub overflow_add-self : goal.overflow_add-self
+overflow_add-self g c =
     let cells = c.args.self.now.cells.now in
     let bs = c.in_ok-records.records.now in
     let test = leb (c.args.self.now.length + length bs / 16) (places_of cells) in
