@@ -19,11 +19,11 @@ use Rattle.tandem.specs.Records.{tandem_job_records}
 use Rattle.tandem.specs.Tandem.{tandem_joins, tandem_rules, tandem_state, tandem_text}
 use Rattle.buffer.specs.Locked.{locked_records}
 use Rattle.buffer.specs.Records.{slot_records}
-use Rattle.buffer.specs.Steps.{buffer_state, state_text as bufferText}
+use Rattle.buffer.specs.Steps.{buffer_state, state_text as buffer_text}
 use Rattle.buffer.specs.Summaries.{buffer_joins, buffer_rules}
 use Rattle.lock.specs.Maps.{lock_joins, lock_rules}
 use Rattle.lock.specs.Records.{event_records}
-use Rattle.lock.specs.States.{lock_state, state_text as lockText}
+use Rattle.lock.specs.States.{lock_state, state_text as lock_text}
 use Rattle.counts.specs.Counts.{count_joins, count_rules, count_state, count_text}
 use Rattle.counts.specs.Records.{frame_count_records}
 use Rattle.counts.specs.Tallies.{no_tallies}
@@ -54,15 +54,15 @@ text_beside f g p = f p.first ++ (codes " " ++ g p.second)
 abbrev pub KindReport : Letter → ℕ → List (List ℕ) → List ℕ → Type 0
 KindReport F = Report server_joins server_rules job_records (server_state 0) server_text
 KindReport T = Report tandem_joins tandem_rules tandem_job_records (tandem_state 0 0) tandem_text
-KindReport B = Report buffer_joins buffer_rules slot_records (buffer_state 0 0 0) bufferText
-KindReport S = Report lock_joins lock_rules event_records (lock_state 0) lockText
+KindReport B = Report buffer_joins buffer_rules slot_records (buffer_state 0 0 0) buffer_text
+KindReport S = Report lock_joins lock_rules event_records (lock_state 0) lock_text
 KindReport C = Report count_joins count_rules frame_count_records (count_state None no_tallies) count_text
 KindReport P =
     Report (pair_joins count_joins tandem_joins) (pair_rules count_rules tandem_rules) counted_records
     (pair (count_state None no_tallies) (tandem_state 0 0)) (text_beside count_text tandem_text)
 KindReport Q =
     Report (pair_joins lock_joins buffer_joins) (pair_rules lock_rules buffer_rules) locked_records
-    (pair (lock_state 0) (buffer_state 0 0 0)) (text_beside lockText bufferText)
+    (pair (lock_state 0) (buffer_state 0 0 0)) (text_beside lock_text buffer_text)
 
 -- The report on the blocks of a pass. The first data block gives the kind, and notes are passed over; they count in the
 -- numbers of blocks.

@@ -8,11 +8,11 @@ use Rattle.tandem.specs.Records.{tandem_job_records}
 use Rattle.tandem.specs.Tandem.{tandem_joins, tandem_rules, tandem_state, tandem_text}
 use Rattle.buffer.specs.Locked.{locked_records}
 use Rattle.buffer.specs.Records.{slot_records}
-use Rattle.buffer.specs.Steps.{buffer_state, state_text as bufferText}
+use Rattle.buffer.specs.Steps.{buffer_state, state_text as buffer_text}
 use Rattle.buffer.specs.Summaries.{buffer_joins, buffer_rules}
 use Rattle.lock.specs.Maps.{lock_joins, lock_rules}
 use Rattle.lock.specs.Records.{event_records}
-use Rattle.lock.specs.States.{lock_state, state_text as lockText}
+use Rattle.lock.specs.States.{lock_state, state_text as lock_text}
 use Rattle.counts.specs.Counts.{count_joins, count_rules, count_state, count_text}
 use Rattle.counts.specs.Records.{frame_count_records}
 use Rattle.counts.specs.Tallies.{no_tallies}
@@ -36,14 +36,14 @@ returns-in-T g c =
 pub returns-in-B : goal.returns-in-B
 returns-in-B g c =
     by_letter_lem c.args.letter B c.args.first (at_hand c.args.blocks) string_bytes c.report_kind-in-B.result c.in-B.is
-    (from_start buffer_joins buffer_rules slot_records bufferText c.args.first (at_hand c.args.blocks) string_bytes c.report_kind-in-B.result
-    c.default-in-B.ensures (c.report_kind-in-B.ensures bufferText (λ d. refl)) (omega arith, omega arith, omega arith))
+    (from_start buffer_joins buffer_rules slot_records buffer_text c.args.first (at_hand c.args.blocks) string_bytes c.report_kind-in-B.result
+    c.default-in-B.ensures (c.report_kind-in-B.ensures buffer_text (λ d. refl)) (omega arith, omega arith, omega arith))
 
 pub returns-in-S : goal.returns-in-S
 returns-in-S g c =
     by_letter_lem c.args.letter S c.args.first (at_hand c.args.blocks) string_bytes c.report_kind-in-S.result c.in-S.is
-    (from_start lock_joins lock_rules event_records lockText c.args.first (at_hand c.args.blocks) string_bytes c.report_kind-in-S.result
-    c.default-in-S.ensures (c.report_kind-in-S.ensures lockText (λ d. refl)) (omega arith))
+    (from_start lock_joins lock_rules event_records lock_text c.args.first (at_hand c.args.blocks) string_bytes c.report_kind-in-S.result
+    c.default-in-S.ensures (c.report_kind-in-S.ensures lock_text (λ d. refl)) (omega arith))
 
 pub returns-in-C : goal.returns-in-C
 returns-in-C g c =
@@ -62,7 +62,7 @@ returns-in-P g c =
 pub returns-in-Q : goal.returns-in-Q
 returns-in-Q g c =
     by_letter_lem c.args.letter Q c.args.first (at_hand c.args.blocks) string_bytes c.report_kind-in-Q.result c.in-Q.is
-    (from_start (pair_joins lock_joins buffer_joins) (pair_rules lock_rules buffer_rules) locked_records (text_beside lockText bufferText)
+    (from_start (pair_joins lock_joins buffer_joins) (pair_rules lock_rules buffer_rules) locked_records (text_beside lock_text buffer_text)
     c.args.first (at_hand c.args.blocks) string_bytes c.report_kind-in-Q.result
     (paired c.default-in-Q.result (lock_state 0) (buffer_state 0 0 0) c.default-in-Q.ensures.0 c.default-in-Q.ensures.1)
-    (c.report_kind-in-Q.ensures (text_beside lockText bufferText) (λ d. refl)) (omega arith, (omega arith, omega arith, omega arith)))
+    (c.report_kind-in-Q.ensures (text_beside lock_text buffer_text) (λ d. refl)) (omega arith, (omega arith, omega arith, omega arith)))

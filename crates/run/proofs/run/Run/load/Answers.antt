@@ -40,7 +40,7 @@ pub returns-in_err-records : goal.returns-in_err-records
 returns-in_err-records g c =
     let run = c.args.self.now in
     let r = g.K.Recorded.records in
-    let p = err_from_is_err_and c.from-residual.result c.from-residual.ensures.1 in
+    let p = err_from_is_err_and c.from_residual.result c.from_residual.ensures.1 in
     record {
       serves = λ given number calls met counts.
           let t = after g.K.Summary.joins g.K.Station.rules (terms_of given number r) calls in
@@ -48,8 +48,8 @@ returns-in_err-records g c =
           let f = c.in_err-records.field-0.0 in
           let is : block_items r (length t.entries) (read_of c.args.bytes.now) ≡ Err f =
           ap (λ n. block_items r n (read_of c.args.bytes.now)) (sym met.counted) ∙ items_refused r run.length (read_of c.args.bytes.now) f c.in_err-records.ensures in
-          let same : c.from-residual.result ≡ Err f = (let e = p.1 in let y = p.2 in cc) in
-          served_refused (Load c.args.bytes.now) (load_answer c.from-residual.result)
+          let same : c.from_residual.result ≡ Err f = (let e = p.1 in let y = p.2 in cc) in
+          served_refused (Load c.args.bytes.now) (load_answer c.from_residual.result)
           (load_fault_lem (places_of given) t _ (block_items r (length t.entries) (read_of c.args.bytes.now)) idle f is ∙ ap (λ x. Refuse (load_answer x)) (sym same)) met;
       refused = rw p.1 refl;
       same = refl;

@@ -20,13 +20,13 @@ returns-in_err-front g c = λ records given number calls met counts.
     let t = after j k (terms_of given number records) calls in
     let es = t.entries in
     let told = stretch_result (leb 0 n && leb n (length es)) (piece_summary j k (piece es 0 n)) t c.stretch.result (c.stretch.ensures.serves records given number calls met tt).answer in
-    let p = err_from_is_err_and c.from-residual.result c.from-residual.ensures.1 in
+    let p = err_from_is_err_and c.from_residual.result c.from_residual.ensures.1 in
     elim told [
       | inl a ↦ let same = sym a.1 ∙ c.in_err-front.was in let z : ◌≡◌ {A = ℕ} 0 1 = cc in absurd (omega arith)
       | inr b ↦
           let none = and_failed_behind (leb 0 n) (leb n (length es)) (le-leb 0 n (omega arith)) b.0 in
-          let same : c.from-residual.result ≡ Err NoSuchPosition = (let was = sym c.in_err-front.was ∙ b.1 in let e = p.1 in let y = p.2 in cc) in
-          served_refused (AskState n c.args.start) (answer_by StateIs c.from-residual.result) (cond-false _ _ _ none ∙ ap (λ x. Refuse (answer_by StateIs x)) (sym same)) met
+          let same : c.from_residual.result ≡ Err NoSuchPosition = (let was = sym c.in_err-front.was ∙ b.1 in let e = p.1 in let y = p.2 in cc) in
+          served_refused (AskState n c.args.start) (answer_by StateIs c.from_residual.result) (cond-false _ _ _ none ∙ ap (λ x. Refuse (answer_by StateIs x)) (sym same)) met
     ]
 
 pub returns : goal.returns
