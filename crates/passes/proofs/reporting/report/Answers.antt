@@ -12,12 +12,12 @@ returns-in-Data g c =
     told_kind begun.0 hand c.in-Data.letter c.in-Data.index string_bytes c.report_letter.result
     begun.1.0 begun.1.1.0 begun.1.1.1 c.report_letter.ensures
 
-pub returns-in_ok-fault_text : goal.returns-in_ok-fault_text
-returns-in_ok-fault_text g c =
+pub returns-in_ok-fault_text-in-Fault : goal.returns-in_ok-fault_text-in-Fault
+returns-in_ok-fault_text-in-Fault g c =
     let hand = at_hand c.open_pass.new.blocks in
     let begun = subst (BeginsBehindNotes hand) c.in-Fault.is c.in_ok-letter.ensures in
-    told_fault begun.0 hand (string_bytes c.in_ok-fault_text.field-0) c.in-Fault.fault begun.1.1.0
-    begun.1.0 begun.1.1.1.0 begun.1.1.1.1 c.in_ok-fault_text.ensures
+    told_fault begun.0 hand (string_bytes c.in_ok-fault_text-in-Fault.field-0) c.in-Fault.fault begun.1.1.0
+    begun.1.0 begun.1.1.1.0 begun.1.1.1.1 c.in_ok-fault_text-in-Fault.ensures
 
 pub returns-in-Nothing : goal.returns-in-Nothing
 unfolding encode
