@@ -6,7 +6,7 @@ use Rattle.counts.specs.declared.tallies.Tallies.{Tallies}
 use Rattle.counts.specs.declared.states.CountState.{CountState}
 use Rattle.counts.specs.declared.summaries.Span.{Span}
 use Rattle.counts.specs.Tallies.{TalliesCount, plus, between}
-use Rattle.counts.specs.Counts.{count_state, span, count_summary, after, LastCounts, SpanCounts, joined_spans, span_effect, count_joins, count_rules}
+use Rattle.counts.specs.Counts.{count_state, span, count_summary, after, SpanCounts, joined_spans, span_effect, count_joins, count_rules}
 use Rattle.counts.specs.TallyLaws.{plus_none, plus_counts, plus_four, plus_five}
 
 spans_count : (x y : Option Span) → SpanCounts x → SpanCounts y → SpanCounts (joined_spans x y)

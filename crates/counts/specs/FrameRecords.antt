@@ -1,17 +1,16 @@
 -- The laws of a frame count's record.
-use Rattle.std.specs.Prelude.{◌≡◌, ℕ, ◌^◌, ◌<◌, ◌≤◌, true, List, ◌++◌, None, Ok, Result, nat_lt, refl}
+use Rattle.std.specs.Prelude.{◌≡◌, ℕ, ◌<◌, List, ◌++◌, None, Ok, nat_lt, refl}
 use Rattle.std.proofs.Common.{ap, subst, ◌∙◌, arith}
 use Rattle.std.specs.List.{between}
 use Rattle.std.proofs.lemmas.Bool.{ltb-true}
 use Rattle.std.proofs.lemmas.Bool.Decides.{nat_tests}
 use Rattle.station.specs.Records.{IsRecord, RecordLaws}
-use Rattle.station.specs.declared.records.RecordFault.{RecordFault}
 use Rattle.station.specs.declared.records.RecordFault.TheVariants.{Limit}
 use Rattle.station.proofs.RecordWays.{unless_used_lem}
 use Rattle.byte_fields.specs.Numbers.{digits, field}
 use Rattle.byte_fields.specs.Unused.{zeros, first_used}
 use Rattle.byte_fields.proofs.NumberLaws.{digits_small, zeros_small, append_small, numeral_digits}
-use Rattle.byte_fields.proofs.Layouts.{field_first, unused_last, field_below}
+use Rattle.byte_fields.proofs.Layouts.{field_first, unused_last}
 use Rattle.byte_fields.proofs.Ways.{cond_then}
 use Rattle.counts.specs.Counts.{frame_count, count_rules}
 use Rattle.counts.specs.Records.{placed_frame_count, frame_count_read, frame_count_written, frame_count_records}

@@ -1,5 +1,5 @@
 -- What a block brings to a run of one kind.
-use Rattle.std.specs.Prelude.{◌≡◌, ℕ, zero, suc, ◌+◌, ◌/◌, cond, List, [], ◌∷◌, length, take, drop, Ok, Err, Result, ◌==◌}
+use Rattle.std.specs.Prelude.{ℕ, zero, suc, ◌+◌, ◌/◌, cond, List, [], ◌∷◌, length, take, drop, Ok, Err, Result, ◌==◌}
 use Rattle.std.specs.Borrow.{Bor}
 use Rattle.station.specs.Letters.{letter_byte}
 use Rattle.station.specs.Records.{Records}

@@ -1,16 +1,15 @@
 -- The laws of an event's record.
-use Rattle.std.specs.Prelude.{◌≡◌, ℕ, ◌^◌, ◌<◌, ◌≤◌, Bool, true, false, cond, T, ltb, List, ◌++◌, None, Ok, Result, refl}
+use Rattle.std.specs.Prelude.{◌≡◌, ℕ, ◌<◌, Bool, true, false, cond, T, List, ◌++◌, None, Ok, refl}
 use Rattle.std.proofs.Common.{ap, subst, ◌∙◌, arith}
 use Rattle.std.specs.List.{between}
 use Rattle.std.proofs.lemmas.Bool.Decides.{nat_tests}
 use Rattle.station.specs.Records.{IsRecord, RecordLaws}
-use Rattle.station.specs.declared.records.RecordFault.{RecordFault}
 use Rattle.station.specs.declared.records.RecordFault.TheVariants.{Limit}
 use Rattle.station.proofs.RecordWays.{unless_used_lem}
 use Rattle.byte_fields.specs.Numbers.{digits, field}
 use Rattle.byte_fields.specs.Unused.{zeros, first_used}
 use Rattle.byte_fields.proofs.NumberLaws.{digits_small, zeros_small, append_small, numeral_digits}
-use Rattle.byte_fields.proofs.Layouts.{field_first, unused_last, field_below}
+use Rattle.byte_fields.proofs.Layouts.{field_first, unused_last}
 use Rattle.byte_fields.proofs.Ways.{cond_then}
 use Rattle.lock.specs.Events.{is_letter, lock_event}
 use Rattle.lock.specs.Maps.{lock_rules}

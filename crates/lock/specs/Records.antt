@@ -1,5 +1,5 @@
 -- The record of an event: the letter in byte 0, and zeros.
-use Rattle.std.specs.Prelude.{ℕ, cond, ltb, List, ◌++◌, Ok, Err, Result}
+use Rattle.std.specs.Prelude.{ℕ, cond, List, ◌++◌, Ok, Err, Result}
 use Rattle.std.specs.List.{between}
 use Rattle.station.specs.Records.{Records, unless_used}
 use Rattle.station.specs.declared.letters.Letter.TheVariants.{S}

@@ -14,7 +14,7 @@ use Rattle.block.specs.declared.faults.BlockFault.{BlockFault}
 use Rattle.loading.specs.Faults.{load_fault}
 use Rattle.loading.specs.declared.faults.LoadCause.TheVariants as cause
 use Rattle.tree.specs.Capacity.{capacity, capacity_from}
-use Rattle.run.specs.Rules.{Terms, after}
+use Rattle.run.specs.Rules.{after}
 use Rattle.run.specs.Serving.{Tells}
 use Rattle.run.specs.Standing.{terms_of}
 use Rattle.run.specs.declared.run.Run.{Run}

@@ -1,16 +1,16 @@
 -- Blocks loaded into a run, one more at the end.
-use Rattle.std.proofs.Common.{◌≡◌, ℕ, ◌+◌, List, [], ◌∷◌, ◌++◌, map, length, Ok, Err, sym, refl, ap, ◌∙◌, subst, arith}
+use Rattle.std.proofs.Common.{◌≡◌, ℕ, ◌+◌, List, [], ◌∷◌, ◌++◌, length, Ok, Err, sym, refl, ap, subst, arith}
 use Rattle.std.proofs.lemmas.List.{map_push, length_push}
 use Rattle.station.specs.Laws.{Joins, Rules}
 use Rattle.station.specs.Records.{Records}
 use Rattle.loading.specs.declared.faults.LoadFault.{LoadFault}
-use Rattle.run.specs.Calls.{Call, Load, Loaded, NotLoaded}
-use Rattle.run.specs.Rules.{Terms, after, answered}
+use Rattle.run.specs.Calls.{Load, Loaded, NotLoaded}
+use Rattle.run.specs.Rules.{Terms, after}
 use Rattle.run.specs.Serving.{ServesBy}
 use Rattle.run.specs.Standing.{Met, Stands, terms_of}
 use Rattle.run.specs.declared.run.Run.{Run}
 use Rattle.recordings.specs.Opening.{pass_fault}
-use Rattle.recordings.specs.Loading.{loads_of, Taken, Broken, LoadedFrom}
+use Rattle.recordings.specs.Loading.{loads_of, Taken, LoadedFrom}
 
 -- a loop that loads: some blocks are taken, and one is at hand, which has a number
 pub record Loading {S I D : Type 0} (j : Joins S) (k : Rules S I D) (given : List S) (w : Terms I) (first : ℕ) (begun : List ℕ) (index : ℕ) (hand : List ℕ) (run : Run S) : Type 0 where

@@ -1,6 +1,6 @@
 -- The laws of the capped sum and of max, for any cap.
-use Rattle.std.specs.Prelude.{◌≡◌, ℕ, ◌+◌, ◌≤◌, min, max}
-use Rattle.std.proofs.Common.{sym, ap, ◌∙◌, arith}
+use Rattle.std.specs.Prelude.{◌≡◌, ℕ, ◌≤◌, max}
+use Rattle.std.proofs.Common.{ap, ◌∙◌, arith}
 use Rattle.server.specs.Clock.{capped_at}
 
 pub max_assoc : (a b c : ℕ) → max (max a b) c ≡ max a (max b c)

@@ -1,5 +1,5 @@
 -- The laws of one server.
-use Rattle.std.specs.Prelude.{◌≡◌, ℕ, ◌≤◌}
+use Rattle.std.specs.Prelude.{◌≡◌, ℕ}
 use Rattle.std.proofs.Common.{sym, ap, arith}
 use Rattle.station.specs.Laws.{JoinLaws, StationLaws, Agreement}
 use Rattle.server.specs.Clock.{clock_end}

@@ -1,13 +1,12 @@
 -- The laws of a counted job's record.
-use Rattle.std.specs.Prelude.{◌≡◌, ℕ, ◌^◌, ◌<◌, ◌≤◌, List, [], ◌++◌, length, drop, Ok, Err, Result, refl}
-use Rattle.std.proofs.Common.{sym, ap, subst, ◌∙◌, arith}
+use Rattle.std.specs.Prelude.{◌≡◌, ℕ, List, [], ◌++◌, drop, Ok, Err, Result, refl}
+use Rattle.std.proofs.Common.{ap, subst, ◌∙◌, arith}
 use Rattle.std.proofs.lemmas.List.{append-nil, drop_all}
 use Rattle.station.specs.Records.{IsRecord, RecordLaws}
 use Rattle.station.specs.Pairs.{pair, pair_rules}
 use Rattle.station.specs.declared.pairing.Pair.{Pair}
 use Rattle.station.specs.declared.records.RecordFault.{RecordFault}
 use Rattle.byte_fields.specs.Numbers.{digits, field}
-use Rattle.byte_fields.specs.Unused.{zeros}
 use Rattle.byte_fields.proofs.NumberLaws.{digits_small, append_small, numeral_digits}
 use Rattle.byte_fields.proofs.Layouts.{field_first}
 use Rattle.counts.specs.Counts.{frame_count, count_rules}

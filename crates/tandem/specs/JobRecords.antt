@@ -1,11 +1,10 @@
 -- The laws of a job's record.
-use Rattle.std.specs.Prelude.{◌≡◌, ℕ, ◌^◌, ◌<◌, ◌≤◌, List, ◌++◌, None, Ok, Result, nat_lt, refl}
+use Rattle.std.specs.Prelude.{◌≡◌, ℕ, List, ◌++◌, None, Ok, nat_lt, refl}
 use Rattle.std.proofs.Common.{ap, subst, ◌∙◌, arith}
 use Rattle.std.specs.List.{between}
 use Rattle.std.proofs.lemmas.Bool.{ltb-false}
 use Rattle.std.proofs.lemmas.Bool.Decides.{nat_tests}
 use Rattle.station.specs.Records.{IsRecord, RecordLaws}
-use Rattle.station.specs.declared.records.RecordFault.{RecordFault}
 use Rattle.station.specs.declared.records.RecordFault.TheVariants.{Limit}
 use Rattle.station.proofs.RecordWays.{unless_used_lem}
 use Rattle.byte_fields.specs.Numbers.{digits, field}

@@ -1,9 +1,9 @@
 -- Lists read place by place, and their fronts.
-use Rattle.std.proofs.Common.{◌≡◌, ℕ, suc, ◌+◌, ◌<◌, List, [], ◌∷◌, ◌++◌, map, length, get_or, take, drop, sym, refl, ap, ◌∙◌, subst}
+use Rattle.std.proofs.Common.{◌≡◌, ℕ, suc, ◌+◌, ◌<◌, List, [], ◌∷◌, ◌++◌, map, length, get_or, take, sym, refl, ap, ◌∙◌, subst}
 use Rattle.std.specs.List.{AllByRecursion as All}
 use Rattle.std.proofs.lemmas.List.{take_more, append-nil, append_assoc, map_push}
 use Rattle.std.proofs.ByRecursion.{All-get_or, All-append}
-use Rattle.traces.specs.Lists.{fronts_behind, fronts}
+use Rattle.traces.specs.Lists.{fronts_behind}
 
 -- what was read at i has what each element has
 pub all_read_lem : {X : Type 0} (P : X → Type 0) (xs : List X) (i : ℕ) (x : X) → i < length xs → x ≡ get_or xs i x → All P xs → P x

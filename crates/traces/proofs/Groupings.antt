@@ -1,5 +1,5 @@
 -- Every bracketing of a list has the value of its gather, and there is one.
-use Rattle.std.proofs.Common.{◌≡◌, List, [], ◌∷◌, ◌++◌, sym, refl, ap, ◌∙◌, subst}
+use Rattle.std.proofs.Common.{◌≡◌, List, [], ◌∷◌, sym, refl, ap, ◌∙◌, subst}
 use Rattle.std.specs.List.{AllByRecursion as All}
 use Rattle.station.specs.Laws.{Joins, JoinLaws, Gives}
 use Rattle.traces.specs.Lists.{gathered, Bracketing, Gathers}

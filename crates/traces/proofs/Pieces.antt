@@ -6,7 +6,7 @@ use Rattle.std.proofs.ByRecursion.{All-map, All-weaker}
 use Rattle.traces.specs.declared.entries.Entry.{Entry}
 use Rattle.traces.specs.declared.entries.Entry.TheVariants.{Item, Withdrawn}
 use Rattle.station.specs.Laws.{Joins, JoinLaws, Rules, StationLaws, Agreement, Gives}
-use Rattle.traces.specs.Lists.{gathered, fronts, prefixes, Bracketing}
+use Rattle.traces.specs.Lists.{gathered, fronts, prefixes}
 use Rattle.traces.specs.Spreading.{Spreads}
 use Rattle.traces.specs.Traces.{EntryCounts, summary_of, ran, states_along, piece_summary, strung, Summarizes}
 use Rattle.traces.proofs.Fronts.{all_read_lem, all_front, all_rest, map_alike, map_after, fronts_map, fronts_all}

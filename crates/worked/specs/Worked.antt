@@ -1,10 +1,9 @@
 -- The worked figures of docs/RULES.md, as facts about the definitions that the contracts cite.
-use Rattle.std.specs.Prelude.{◌≡◌, ℕ, List, [], ◌∷◌, Some, None, Ok, Err}
+use Rattle.std.specs.Prelude.{◌≡◌, ℕ, List, [], ◌∷◌, Some, Ok, Err}
 use Rattle.traces.specs.declared.entries.Entry.{Entry}
 use Rattle.traces.specs.declared.entries.Entry.TheVariants.{Item}
 use Rattle.station.specs.declared.refusals.Refusal.TheVariants.{StateLimit}
 use Rattle.traces.specs.Traces.{ran, states_along, piece_summary}
-use Rattle.server.specs.Clock.{clock_end}
 use Rattle.server.specs.declared.jobs.Job.{Job}
 use Rattle.tandem.specs.declared.jobs.TandemJob.{TandemJob}
 use Rattle.server.specs.Server.{job, server_state, server_summary, server_joins, server_rules}

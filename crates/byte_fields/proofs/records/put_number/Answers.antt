@@ -1,4 +1,4 @@
-use Rattle.std.proofs.Common.{refl, arith}
+use Rattle.std.proofs.Common.{arith}
 use Rattle.byte_fields.proofs.Layouts.{put_field}
 use Rattle.byte_fields.proofs.records.put_number.Goals as goal
 

@@ -1,5 +1,4 @@
 use Rattle.std.proofs.Common.{◌≡◌, ◌++◌, map, length, drop, ap, ◌∙◌, arith}
-use Rattle.std.specs.List.{AllByRecursion as All}
 use Rattle.std.proofs.lemmas.List.{take_all, length-set, drop-set-lt}
 use Rattle.traces.proofs.Folds.{write_turn}
 use Rattle.traces.proofs.Pieces.{spreads}

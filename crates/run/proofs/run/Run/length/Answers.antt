@@ -1,4 +1,4 @@
-use Rattle.std.proofs.Common.{length, sym, ap}
+use Rattle.std.proofs.Common.{sym, ap}
 use Rattle.run.specs.Calls.{AskLength, LengthIs}
 use Rattle.run.specs.Rules.{Grant, after}
 use Rattle.run.specs.Standing.{terms_of}

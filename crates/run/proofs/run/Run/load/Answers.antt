@@ -3,7 +3,6 @@ use Rattle.std.proofs.ByRecursion.{All-append, All-map}
 use Rattle.std.proofs.lemmas.List.{length-map, length-append}
 use Rattle.std.proofs.lemmas.Result.{err_from_is_err_and}
 use Rattle.std.proofs.lemmas.Bool.{le-leb, leb-true}
-use Rattle.station.specs.declared.refusals.Refusal.TheVariants.{TrialOpen, NoRoom}
 use Rattle.traces.specs.Traces.{EntryCounts}
 use Rattle.traces.specs.declared.entries.Entry.TheVariants.{Item}
 use borrow.Rule.Slice.Mut.{set_vals}

@@ -1,4 +1,4 @@
-use Rattle.std.proofs.Common.{◌≡◌, ℕ, List, Ok, sym, subst}
+use Rattle.std.proofs.Common.{◌≡◌, Ok, sym, subst}
 use Rattle.byte_fields.specs.Unused.{zeros}
 use Rattle.server.specs.Records.{job_read, job_written}
 use Rattle.server.specs.JobRecords.{job_back}
