@@ -1,6 +1,6 @@
 -- Records read one after another.
 use Rattle.std.proofs.Common.{◌≡◌, ℕ, zero, suc, ◌+◌, ◌-◌, ◌*◌, ◌/◌, ◌<◌, ◌≤◌, List, [], ◌∷◌, length, get_or, take, drop, Some, Ok, Err, Result, sym, refl, ap, ◌∙◌, subst, arith}
-use Rattle.std.specs.List.{between, AllByRecursion as All}
+use Rattle.std.specs.List.{between, AllByRecursion}
 use Rattle.std.proofs.lemmas.List.Edits.{length-between}
 use Rattle.std.proofs.ByRecursion.{All-from_get_or}
 use Rattle.std.proofs.lemmas.List.{drop-drop}
@@ -100,13 +100,13 @@ module _ {I : Type 0} (r : Records I) (bs : List ℕ) (is : List I) (read : reco
   pub item_at : (i : ℕ) → i < length bs / 16 → ItemAt r.reading is i bs
   item_at i lt = item_from r.reading (length bs / 16) 0 bs is read i lt
 
-  pub items_count : {is_item : I → Type 0} → RecordLaws is_item r → Small bs → All is_item is
+  pub items_count : {is_item : I → Type 0} → RecordLaws is_item r → Small bs → AllByRecursion is_item is
   items_count {is_item} laws small = counted is (λ i lt d.
       let size = items_size in
       let at = item_at i (omega arith) in
       subst is_item (sym (at.here d)) (laws.read_counts (record_bytes bs i) at.item (here_record bs i (omega arith) small) at.read))
     where
-      counted : (xs : List I) → ((i : ℕ) → i < length xs → (d : I) → is_item (get_or xs i d)) → All is_item xs
+      counted : (xs : List I) → ((i : ℕ) → i < length xs → (d : I) → is_item (get_or xs i d)) → AllByRecursion is_item xs
       counted [] h = tt
       counted (x ∷ xs) h = All-from_get_or is_item (x ∷ xs) x (λ i lt. h i lt x)
 

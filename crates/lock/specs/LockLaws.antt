@@ -1,7 +1,7 @@
 -- Each letter's map is its row of next states, packed; so its effect is the step.
 use Rattle.std.specs.Prelude.{◌≡◌, ℕ, zero, suc, ◌^◌, ◌<◌, Bool, true, false, cond, List, [], ◌∷◌, ◌==◌, slice_index, refl}
 use Rattle.std.proofs.Common.{sym, ap, subst, ◌∙◌, arith, rules}
-use Rattle.std.specs.List.{AllByRecursion as All}
+use Rattle.std.specs.List.{AllByRecursion}
 use Rattle.station.specs.Laws.{StationLaws, Agreement}
 use Rattle.lock.specs.States.{lock_state}
 use Rattle.lock.specs.Events.{good_marker, bad_marker, carrier_lost, stow, track, by_letter, next_states, next_state}
@@ -10,7 +10,7 @@ use Rattle.lock.specs.MapLaws.{image_small, image_of, image_joined, image_identi
 
 -- a row of next states, and its map
 abbrev Row : List ℕ → ℕ → Type 0
-Row states m = All (λ s. s < 8) states × (m ≡ packed (λ d. slice_index states d))
+Row states m = AllByRecursion (λ s. s < 8) states × (m ≡ packed (λ d. slice_index states d))
 
 -- what relates each of the six to its fellow relates the two that a letter chooses
 by_letters : {A B : Type 0} (P : A → B → Type 0) (g b l s t o : A) (g' b' l' s' t' o' : B) → P g g' → P b b' → P l l' → P s s' → P t t' → P o o'
@@ -30,7 +30,7 @@ letter_row c =
     by_letters Row _ _ _ _ _ _ _ _ _ _ _ _
     (search rules, refl) (search rules, refl) (search rules, refl) (search rules, refl) (search rules, refl) (search rules, refl) c
 
-small_at : (states : List ℕ) (d : ℕ) → All (λ s. s < 8) states → slice_index states d < 8
+small_at : (states : List ℕ) (d : ℕ) → AllByRecursion (λ s. s < 8) states → slice_index states d < 8
 small_at [] d all = omega arith
 small_at (s ∷ states) zero all = all.0
 small_at (s ∷ states) (suc d) all = small_at states d all.1

@@ -1,7 +1,7 @@
 -- What is told of blocks that were loaded.
 use Rattle.std.proofs.Common.{◌≡◌, ℕ, List, [], ◌∷◌, ◌++◌, length, IfOk, Some, Ok, Err, codes, decimal, Result, sym, refl, ap, ◌∙◌, subst}
 use lib.Utf8.{encode}
-use Rattle.std.specs.List.{AllByRecursion as All}
+use Rattle.std.specs.List.{AllByRecursion}
 use Rattle.station.specs.Laws.{Joins, Rules}
 use Rattle.station.specs.Letters.{letter_byte}
 use Rattle.station.specs.Pairs.{pair}
@@ -88,7 +88,7 @@ paired p x y a b = ap (λ v. pair v p.second) a ∙ ap (pair x) b
 
 -- behind the notes
 pub told_kind : {X E : Type 0} (notes : List (List ℕ)) (hand : List ℕ) (l : Letter) (at : ℕ) (bytes_of : X → List ℕ) (r : Result X E)
-    → All IsNote notes → at ≡ length notes → kind_of hand ≡ Ok (Some l)
+    → AllByRecursion IsNote notes → at ≡ length notes → kind_of hand ≡ Ok (Some l)
     → IfOk r (λ x. (rest : List (List ℕ)) × KindReport l at (hand ∷ rest) (bytes_of x))
     → IfOk r (λ x. (blocks : List (List ℕ)) × ReportOn blocks (bytes_of x))
 told_kind notes hand l at bytes_of r all is kind =
@@ -98,12 +98,12 @@ told_kind notes hand l at bytes_of r all is kind =
     ))
 
 pub told_fault : (notes : List (List ℕ)) (hand text : List ℕ) (f : PassFault) (e : BlockFault)
-    → All IsNote notes → f ≡ pass_fault (length notes) (load_fault (cause.Block e) 0) → kind_of hand ≡ Err e → text ≡ break_text f
+    → AllByRecursion IsNote notes → f ≡ pass_fault (length notes) (load_fault (cause.Block e) 0) → kind_of hand ≡ Err e → text ≡ break_text f
     → (blocks : List (List ℕ)) × ReportOn blocks text
 told_fault notes hand text f e all is bad told =
     (notes ++ (hand ∷ []), subst (ReportOn (notes ++ (hand ∷ []))) (sym (told ∙ ap break_text is)) (ReportOn.no_block notes hand e all bad))
 
-pub told_nothing : {X E : Type 0} (notes : List (List ℕ)) (bytes_of : X → List ℕ) (r : Result X E) → All IsNote notes
+pub told_nothing : {X E : Type 0} (notes : List (List ℕ)) (bytes_of : X → List ℕ) (r : Result X E) → AllByRecursion IsNote notes
     → IfOk r (λ x. bytes_of x ≡ pass_text decimal (codes "-") [])
     → IfOk r (λ x. (blocks : List (List ℕ)) × ReportOn blocks (bytes_of x))
 told_nothing notes bytes_of r all = made_map _ _ r (λ x told. (notes, subst (ReportOn notes) (sym told) (ReportOn.no_data notes all)))

@@ -1,6 +1,6 @@
 -- The report on the blocks of a recorded pass.
 use Rattle.std.specs.Prelude.{◌≡◌, ℕ, List, [], ◌∷◌, ◌++◌, length, Some, None, Ok, Err, codes, decimal}
-use Rattle.std.specs.List.{AllByRecursion as All}
+use Rattle.std.specs.List.{AllByRecursion}
 use Rattle.station.specs.Laws.{Joins, Rules}
 use Rattle.station.specs.Letters.{letter_byte}
 use Rattle.station.specs.Pairs.{pair, pair_joins, pair_rules}
@@ -67,8 +67,8 @@ KindReport Q =
 -- The report on the blocks of a pass. The first data block gives the kind, and notes are passed over; they count in the
 -- numbers of blocks.
 pub data ReportOn : List (List ℕ) → List ℕ → Type 0 where
-  no_data : (notes : List (List ℕ)) → All IsNote notes → ReportOn notes (pass_text decimal (codes "-") [])
-  no_block : (notes : List (List ℕ)) (b : List ℕ) (f : BlockFault) → All IsNote notes → kind_of b ≡ Err f
+  no_data : (notes : List (List ℕ)) → AllByRecursion IsNote notes → ReportOn notes (pass_text decimal (codes "-") [])
+  no_block : (notes : List (List ℕ)) (b : List ℕ) (f : BlockFault) → AllByRecursion IsNote notes → kind_of b ≡ Err f
       → ReportOn (notes ++ (b ∷ [])) (break_text (pass_fault (length notes) (load_fault (cause.Block f) 0)))
-  of_kind : (notes rest : List (List ℕ)) (b : List ℕ) (l : Letter) (text : List ℕ) → All IsNote notes → kind_of b ≡ Ok (Some l)
+  of_kind : (notes rest : List (List ℕ)) (b : List ℕ) (l : Letter) (text : List ℕ) → AllByRecursion IsNote notes → kind_of b ≡ Ok (Some l)
       → KindReport l (length notes) (b ∷ rest) text → ReportOn (notes ++ (b ∷ rest)) text

@@ -1,6 +1,6 @@
 -- How a pass begins.
 use Rattle.std.specs.Prelude.{◌≡◌, ℕ, List, length, Some, None, Ok, Err, Option, Result}
-use Rattle.std.specs.List.{AllByRecursion as All}
+use Rattle.std.specs.List.{AllByRecursion}
 use Rattle.station.specs.declared.letters.Letter.{Letter}
 use Rattle.block.specs.Layout.{Held, held_records, held_note}
 use Rattle.block.specs.Reading.{read_of}
@@ -34,4 +34,4 @@ Begins notes b (opening.Fault f) = (e : BlockFault) × ((f ≡ pass_fault (lengt
 Begins notes b opening.Nothing = Unit {0}
 
 abbrev pub BeginsBehindNotes : List ℕ → Opening → Type 0
-BeginsBehindNotes b o = (notes : List (List ℕ)) × (All IsNote notes × Begins notes b o)
+BeginsBehindNotes b o = (notes : List (List ℕ)) × (AllByRecursion IsNote notes × Begins notes b o)

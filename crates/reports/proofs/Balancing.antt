@@ -1,6 +1,6 @@
 -- The balance of counts, by one step and then by the list.
 use Rattle.std.proofs.Common.{◌≡◌, ℕ, suc, ◌+◌, ◌-◌, ◌%◌, ◌<◌, ◌≤◌, List, [], ◌∷◌, length, Some, sym, refl, ◌∙◌, arith}
-use Rattle.std.specs.List.{AllByRecursion as All}
+use Rattle.std.specs.List.{AllByRecursion}
 use Rattle.std.proofs.lemmas.Bool.Decides.{nat_tests}
 use Rattle.traces.specs.declared.entries.Entry.{Entry}
 use Rattle.traces.specs.declared.entries.Entry.TheVariants.{Item, Withdrawn}
@@ -39,7 +39,7 @@ record Carried (is : List FrameCount) (l : ℕ) (t : Tallies) (end : CountState)
   balance : end.tallies.late ≡ t.late
       → (length is + end.tallies.missing + l + t.repeats) % 16384 ≡ (last + end.tallies.repeats + t.missing) % 16384
 
-carried : (is : List FrameCount) (l : ℕ) (t : Tallies) → l < 16384 → All count_rules.is_item is → t.late + length is < 4294967296
+carried : (is : List FrameCount) (l : ℕ) (t : Tallies) → l < 16384 → AllByRecursion count_rules.is_item is → t.late + length is < 4294967296
     → Carried is l t (replayed count_rules (count_state (Some l) t) is)
 carried [] l t hl all room = record { last = l; seen = refl; grows = omega arith; balance = λ _. omega arith }
 carried (i ∷ is) l t hl all room =
@@ -60,7 +60,7 @@ carried (i ∷ is) l t hl all room =
           (rest.balance (same ∙ sym still));
     }
 
-items_count : (es : List (Entry FrameCount)) → All (EntryCounts count_rules) es → All count_rules.is_item (items_of es)
+items_count : (es : List (Entry FrameCount)) → AllByRecursion (EntryCounts count_rules) es → AllByRecursion count_rules.is_item (items_of es)
 items_count [] all = tt
 items_count (Item i ∷ es) all = (all.0, items_count es all.1)
 items_count (Withdrawn ∷ es) all = items_count es all.1
@@ -71,7 +71,7 @@ items_fewer (Item i ∷ es) = omega (arith, items_fewer es)
 items_fewer (Withdrawn ∷ es) = omega (arith, items_fewer es)
 
 -- the balance of the frames alone
-items_balance : (is : List FrameCount) (first : ℕ) → All count_rules.is_item is → length is ≤ 4096 → count_of_first is ≡ Some first
+items_balance : (is : List FrameCount) (first : ℕ) → AllByRecursion count_rules.is_item is → length is ≤ 4096 → count_of_first is ≡ Some first
     → (replayed count_rules nothing_seen is).tallies.late ≡ 0 → Balanced (length is) first (replayed count_rules nothing_seen is)
 items_balance [] first all few starts none = let z : ◌≡◌ {A = ℕ} 0 1 = cc in absurd (omega arith)
 items_balance (i ∷ is) first all few starts none =
@@ -79,5 +79,5 @@ items_balance (i ∷ is) first all few starts none =
     let e : i.count ≡ first = cc in
     record { last = rest.last; seen = rest.seen; balance = omega (arith, rest.balance none) }
 
-pub balances : (es : List (Entry FrameCount)) → All (EntryCounts count_rules) es → length es ≤ 4096 → Balances es (ran count_rules nothing_seen es)
+pub balances : (es : List (Entry FrameCount)) → AllByRecursion (EntryCounts count_rules) es → length es ≤ 4096 → Balances es (ran count_rules nothing_seen es)
 balances es all few first = items_balance (items_of es) first (items_count es all) (omega (arith, items_fewer es))

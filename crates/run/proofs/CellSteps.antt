@@ -1,6 +1,6 @@
 -- The cells of a trace once a call has written in them.
 use Rattle.std.proofs.Common.{◌≡◌, ℕ, ◌+◌, ◌-◌, ◌*◌, ◌<◌, ◌≤◌, ◌≢◌, ◌⊎◌, List, [], ◌∷◌, ◌++◌, map, length, get_or, take, set, replicate, Some, None, Option, sym, refl, ap, ◌∙◌, subst, inl, inr, ⊎_elim, arith}
-use Rattle.std.specs.List.{AllByRecursion as All}
+use Rattle.std.specs.List.{AllByRecursion}
 use Rattle.std.proofs.ByRecursion.{All-get_or, All-set, All-append, All-push, All-take, All-map}
 use Rattle.std.proofs.lemmas.List.{get_or-set_same, get_or-set_other, get_or_past, get_or_push, get_or_append_left, get_or-append_right, get_or-map, get_or-take, get_or-replicate, length-replicate, length-append, length-map, length_push, length-set, length-take-le}
 use Rattle.std.proofs.lemmas.Bool.{cases_eq, cases_lt}
@@ -23,7 +23,7 @@ pub same_places : {S I D : Type 0} {j : Joins S} {k : Rules S I D} {given : List
 same_places c = ap capacity c.size
 
 module _ {S I D : Type 0} {j : Joins S} {k : Rules S I D} (laws : JoinLaws j) (steps : StationLaws j k) (agree : Agreement j k) where
-  leaf_counts : (es : List (Entry I)) (i : ℕ) → All (EntryCounts k) es → j.is_summary (leaf_of j k es i)
+  leaf_counts : (es : List (Entry I)) (i : ℕ) → AllByRecursion (EntryCounts k) es → j.is_summary (leaf_of j k es i)
   leaf_counts es i all =
       ⊎_elim (λ (l : i < length es). summary_counts laws steps agree (get_or es i Withdrawn) (All-get_or (EntryCounts k) es i Withdrawn l all))
       (λ (o : length es ≤ i). subst (λ e. j.is_summary (summary_of j k e)) (sym (get_or_past es i Withdrawn o)) laws.empty_counts) (cases_lt i (length es))
@@ -34,7 +34,7 @@ module _ {S I D : Type 0} {j : Joins S} {k : Rules S I D} (laws : JoinLaws j) (s
 
   -- Cells rejoined over what was wanted are those of a trace, where that has the trace's leaves and its kept summary.
   rejoined : {n : ℕ} {given before wanted after : List S} {t : Trace I} (u : Trace I) → CellsOf j k n given t before → Rejoined j n before wanted after
-      → All (EntryCounts k) u.entries → j.is_summary (kept_of j k u.tried)
+      → AllByRecursion (EntryCounts k) u.entries → j.is_summary (kept_of j k u.tried)
       → (0 < n → cell j wanted 0 ≡ kept_of j k u.tried)
       → ((i : ℕ) → i < n → cell j wanted (n + i) ≡ leaf_of j k u.entries i)
       → ((i : ℕ) → ((1 ≤ i) × (i < n)) ⊎ (2 * n ≤ i) → cell j wanted i ≡ cell j before i)
@@ -61,7 +61,7 @@ module _ {S I D : Type 0} {j : Joins S} {k : Rules S I D} (laws : JoinLaws j) (s
   module _ {given before after : List S} {t : Trace I} (was : CellsOf j k (places_of before) given t before) where
     -- one leaf written
     pub leaf_put : (es : List (Entry I)) (p : ℕ) (s : S) → p < places_of before → Rejoined j (places_of before) before (with_leaf before p s) after
-        → All (EntryCounts k) es → j.is_summary (kept_of j k t.tried) → leaf_of j k es p ≡ s
+        → AllByRecursion (EntryCounts k) es → j.is_summary (kept_of j k t.tried) → leaf_of j k es p ≡ s
         → ((i : ℕ) → i ≢ p → leaf_of j k es i ≡ leaf_of j k t.entries i)
         → CellsOf j k (places_of before) given (trace es t.tried) after
     leaf_put es p s lt put items trials here others =
@@ -77,7 +77,7 @@ module _ {S I D : Type 0} {j : Joins S} {k : Rules S I D} (laws : JoinLaws j) (s
 
     -- one entry changed
     pub leaf_set : (e : Entry I) (p : ℕ) (s : S) → p < length t.entries → length t.entries ≤ places_of before → Rejoined j (places_of before) before (with_leaf before p s) after
-        → All (EntryCounts k) t.entries → EntryCounts k e → j.is_summary (kept_of j k t.tried) → summary_of j k e ≡ s
+        → AllByRecursion (EntryCounts k) t.entries → EntryCounts k e → j.is_summary (kept_of j k t.tried) → summary_of j k e ≡ s
         → CellsOf j k (places_of before) given (trace (set t.entries p e) t.tried) after
     leaf_set e p s lt within put items item trials is =
         leaf_put (set t.entries p e) p s (omega arith) put (All-set (EntryCounts k) t.entries p e item items) trials
@@ -86,7 +86,7 @@ module _ {S I D : Type 0} {j : Joins S} {k : Rules S I D} (laws : JoinLaws j) (s
 
     -- one entry appended
     pub leaf_push : (e : Entry I) (s : S) → length t.entries < places_of before → Rejoined j (places_of before) before (with_leaf before (length t.entries) s) after
-        → All (EntryCounts k) t.entries → EntryCounts k e → j.is_summary (kept_of j k t.tried) → summary_of j k e ≡ s
+        → AllByRecursion (EntryCounts k) t.entries → EntryCounts k e → j.is_summary (kept_of j k t.tried) → summary_of j k e ≡ s
         → CellsOf j k (places_of before) given (trace (t.entries ++ (e ∷ [])) t.tried) after
     leaf_push e s lt put items item trials is =
         let es = t.entries in
@@ -100,7 +100,7 @@ module _ {S I D : Type 0} {j : Joins S} {k : Rules S I D} (laws : JoinLaws j) (s
 
     -- leaves written one behind another, or emptied
     leaves_put : (es : List (Entry I)) (first : ℕ) (leaves : List S) → first + length leaves ≤ places_of before → Rejoined j (places_of before) before (with_leaves before first leaves) after
-        → All (EntryCounts k) es → j.is_summary (kept_of j k t.tried)
+        → AllByRecursion (EntryCounts k) es → j.is_summary (kept_of j k t.tried)
         → ((i : ℕ) → i < first → leaf_of j k es i ≡ leaf_of j k t.entries i)
         → ((i : ℕ) → i < length leaves → leaf_of j k es (first + i) ≡ get_or leaves i j.empty)
         → ((i : ℕ) → first + length leaves ≤ i → leaf_of j k es i ≡ leaf_of j k t.entries i)
@@ -131,7 +131,7 @@ module _ {S I D : Type 0} {j : Joins S} {k : Rules S I D} (laws : JoinLaws j) (s
     -- items appended
     pub leaves_push : (is : List I) (leaves : List S) → leaves ≡ map k.of_item is → length t.entries + length is ≤ places_of before
         → Rejoined j (places_of before) before (with_leaves before (length t.entries) leaves) after
-        → All (EntryCounts k) t.entries → All k.is_item is → j.is_summary (kept_of j k t.tried)
+        → AllByRecursion (EntryCounts k) t.entries → AllByRecursion k.is_item is → j.is_summary (kept_of j k t.tried)
         → CellsOf j k (places_of before) given (trace (t.entries ++ map Item is) t.tried) after
     leaves_push is leaves are room put items new trials =
         let es = t.entries in
@@ -157,7 +157,7 @@ module _ {S I D : Type 0} {j : Joins S} {k : Rules S I D} (laws : JoinLaws j) (s
     -- the last entries cut off
     pub leaves_cut : (n : ℕ) → n ≤ length t.entries → length t.entries ≤ places_of before
         → Rejoined j (places_of before) before (without_leaves j before n (length t.entries)) after
-        → All (EntryCounts k) t.entries → j.is_summary (kept_of j k t.tried)
+        → AllByRecursion (EntryCounts k) t.entries → j.is_summary (kept_of j k t.tried)
         → CellsOf j k (places_of before) given (trace (take n t.entries) t.tried) after
     leaves_cut n le within put items trials =
         let es = t.entries in
@@ -173,7 +173,7 @@ module _ {S I D : Type 0} {j : Joins S} {k : Rules S I D} (laws : JoinLaws j) (s
 
     -- another entry tried
     pub leaf_tried : (e : Entry I) (p : ℕ) (s : S) → p < length t.entries → length t.entries ≤ places_of before → Rejoined j (places_of before) before (with_trial j before p s) after
-        → All (EntryCounts k) t.entries → EntryCounts k e → summary_of j k e ≡ s
+        → AllByRecursion (EntryCounts k) t.entries → EntryCounts k e → summary_of j k e ≡ s
         → CellsOf j k (places_of before) given (trace (set t.entries p e) (Some (record { place = p; old = get_or t.entries p Withdrawn }))) after
     leaf_tried e p s lt within put items item is =
         let n = places_of before in
@@ -197,7 +197,7 @@ module _ {S I D : Type 0} {j : Joins S} {k : Rules S I D} (laws : JoinLaws j) (s
     -- the old entry taken back
     pub leaf_restored : (old : Entry I) (p : ℕ) → p < length t.entries → length t.entries ≤ places_of before → t.tried ≡ Some (record { place = p; old = old })
         → Rejoined j (places_of before) before (with_old j before p) after
-        → All (EntryCounts k) t.entries → EntryCounts k old
+        → AllByRecursion (EntryCounts k) t.entries → EntryCounts k old
         → CellsOf j k (places_of before) given (trace (set t.entries p old) None) after
     leaf_restored old p lt within tried put items counts =
         let n = places_of before in

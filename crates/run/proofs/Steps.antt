@@ -1,6 +1,6 @@
 -- How a run stands once a call has been granted, and what it answers.
 use Rattle.std.proofs.Common.{◌≡◌, ℕ, ◌+◌, ◌-◌, ◌<◌, ◌≤◌, Bool, true, false, cond, ◌&&◌, leb, ◌⊎◌, List, map, length, get_or, drop, None, Ok, Err, Result, sym, refl, ap, ◌∙◌, subst, inl, inr, ⊎_elim, arith}
-use Rattle.std.specs.List.{AllByRecursion as All}
+use Rattle.std.specs.List.{AllByRecursion}
 use Rattle.std.proofs.lemmas.List.{ext_get_or, get_or-drop, get_or-map, get_or-take, length-drop, length-map, length-take-le}
 use Rattle.std.proofs.lemmas.Bool.{and_from, cases_lt, cond-true, cond-false, le-leb, lt-leb}
 use Rattle.station.specs.Laws.{Joins, Rules}
@@ -48,7 +48,7 @@ module _ {S I D : Type 0} {j : Joins S} {k : Rules S I D} {given : List S} {numb
 
   -- another trace for the same run
   pub stands_as : (u : Trace I) (end : Run S) → end.number ≡ run.number → end.trial ≡ place_of u.tried → end.length ≡ length u.entries
-      → length u.entries ≤ places_of run.cells.now → All (EntryCounts k) u.entries → TrialCounts k (length u.entries) u.tried
+      → length u.entries ≤ places_of run.cells.now → AllByRecursion (EntryCounts k) u.entries → TrialCounts k (length u.entries) u.tried
       → CellsOf j k (places_of run.cells.now) given u end.cells.now → Stands j k given (terms_of given number records) u end
   stands_as u end num trial size within items trials cells =
       let same = same_places met.cells in
@@ -64,7 +64,7 @@ module _ {S I D : Type 0} {j : Joins S} {k : Rules S I D} {given : List S} {numb
 
   -- the same where no trial is open
   pub stands_edited : (es : List (Entry I)) (end : Run S) → t.tried ≡ None → end.number ≡ run.number → end.trial ≡ run.trial → end.length ≡ length es
-      → length es ≤ places_of run.cells.now → All (EntryCounts k) es
+      → length es ≤ places_of run.cells.now → AllByRecursion (EntryCounts k) es
       → CellsOf j k (places_of run.cells.now) given (trace es t.tried) end.cells.now → Stands j k given (terms_of given number records) (trace es t.tried) end
   stands_edited es end idle num trial size within items cells =
       stands_as (trace es t.tried) end num (trial ∙ met.trying) size within items (subst (TrialCounts k (length es)) (sym idle) tt) cells

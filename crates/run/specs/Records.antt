@@ -1,7 +1,7 @@
 -- The records of a block as leaves.
 use Rattle.std.specs.Prelude.{◌≡◌, ℕ, ◌+◌, ◌/◌, cond, List, map, length, Ok, Err, Result, nat_le}
 use Rattle.std.proofs.Math.Seq.{paste}
-use Rattle.std.specs.List.{AllByRecursion as All}
+use Rattle.std.specs.List.{AllByRecursion}
 use Rattle.station.specs.Laws.{Joins, Rules}
 use Rattle.station.specs.Records.{Records}
 use Rattle.station.specs.declared.refusals.Refusal.{Refusal}
@@ -20,4 +20,4 @@ pub record Appends {S I D : Type 0} (j : Joins S) (k : Rules S I D) (r : Records
   pub is : answer ≡ cond (nat_le (first + length bs / 16) (places_of before)) (Ok tt) (Err NoRoom)
   pub refused : answer ≡ Err NoRoom → after ≡ before
   pub granted : answer ≡ Ok tt → (is : List I) → record_items r bs ≡ Ok is
-      → All k.is_item is × Rejoined j (places_of before) before (with_leaves before first (map k.of_item is)) after
+      → AllByRecursion k.is_item is × Rejoined j (places_of before) before (with_leaves before first (map k.of_item is)) after

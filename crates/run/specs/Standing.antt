@@ -1,6 +1,6 @@
 -- How a run and its cells stand for a trace.
 use Rattle.std.specs.Prelude.{◌≡◌, ℕ, ◌+◌, ◌*◌, ◌<◌, ◌≤◌, cond, List, length, Some, None, Option, ◌==◌, slice_index_or}
-use Rattle.std.specs.List.{AllByRecursion as All}
+use Rattle.std.specs.List.{AllByRecursion}
 use Rattle.station.specs.Laws.{Joins, Rules}
 use Rattle.station.specs.Records.{Records}
 use Rattle.traces.specs.Traces.{EntryCounts, summary_of}
@@ -45,7 +45,7 @@ pub record Stands {S I D : Type 0} (j : Joins S) (k : Rules S I D) (given : List
   pub trying : run.trial ≡ place_of t.tried
   pub cells : CellsOf j k w.room given t run.cells.now
   pub within : length t.entries ≤ w.room
-  pub items : All (EntryCounts k) t.entries
+  pub items : AllByRecursion (EntryCounts k) t.entries
   pub trials : TrialCounts k (length t.entries) t.tried
 
 -- the place that a run tries, where a ticket with this number settles the trial

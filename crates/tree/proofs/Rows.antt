@@ -1,6 +1,6 @@
 -- The join of a row of cells: taken from its front, its back, and from the level above.
 use Rattle.std.proofs.Common.{◌≡◌, ℕ, zero, suc, ◌+◌, ◌-◌, ◌*◌, ◌/◌, ◌%◌, ◌<◌, ◌≤◌, List, [], ◌∷◌, ◌++◌, length, get_or, take, drop, sym, refl, ap, ◌∙◌, subst, arith}
-use Rattle.std.specs.List.{AllByRecursion as All}
+use Rattle.std.specs.List.{AllByRecursion}
 use Rattle.std.proofs.lemmas.List.{drop_more, take_more, get_or-drop, get_or_read, length-drop}
 use Rattle.station.specs.Laws.{Joins, JoinLaws, Gives}
 use Rattle.traces.specs.Lists.{gathered}
@@ -23,9 +23,9 @@ module _ {S : Type 0} {j : Joins S} (laws : JoinLaws j) (n : ℕ) (cells : List 
   front : (k count : ℕ) → k < 2 * n → take (suc count) (drop k cells) ≡ cell j cells k ∷ take count (drop (k + 1) cells)
   front k count h = ap (take (suc count)) (drop_more cells k j.empty (omega arith))
 
-  all_count : (k count : ℕ) → k + count ≤ 2 * n → All j.is_summary (take count (drop k cells))
+  all_count : (k count : ℕ) → k + count ≤ 2 * n → AllByRecursion j.is_summary (take count (drop k cells))
   all_count k zero h = tt
-  all_count k (suc count) h = subst (All j.is_summary) (sym (front k count (omega arith))) (t.counts k (omega arith), all_count (k + 1) count (omega arith))
+  all_count k (suc count) h = subst (AllByRecursion j.is_summary) (sym (front k count (omega arith))) (t.counts k (omega arith), all_count (k + 1) count (omega arith))
 
   row_counts : (k count : ℕ) → k + count ≤ 2 * n → j.is_summary (row j cells k count)
   row_counts k count h = gathered_counts laws _ (all_count k count h)

@@ -1,7 +1,7 @@
 -- Trees after writes: a cell joined from the two below it is right, and only the one above it can be wrong then.
 use Rattle.std.proofs.Common.{◌≡◌, ℕ, ◌+◌, ◌-◌, ◌*◌, ◌/◌, ◌<◌, ◌≤◌, ◌≢◌, List, length, set, sym, subst, ⊎_elim, arith}
 use lib.Seq.{paste}
-use Rattle.std.specs.List.{AllByRecursion as All}
+use Rattle.std.specs.List.{AllByRecursion}
 use Rattle.std.proofs.ByRecursion.{All-get_or}
 use Rattle.std.proofs.lemmas.List.{get_or-set_same, get_or-set_other}
 use Rattle.std.proofs.lemmas.Bool.{cases_eq, cases_lt}
@@ -23,7 +23,7 @@ module _ {S : Type 0} (j : Joins S) where
       (λ (e : k ≡ p). subst j.is_summary (sym (subst (λ m. cell j (set cells p v) m ≡ v) (sym e) (get_or-set_same cells p v j.empty lt))) fv)
       (λ (ne : k ≢ p). subst j.is_summary (sym (get_or-set_other cells p k v j.empty ne)) (all k h)) (cases_eq k p)
 
-  pub counts_paste : (n : ℕ) (cells : List S) (at : ℕ) (leaves : List S) → at + length leaves ≤ length cells → AllCount j n cells → All j.is_summary leaves
+  pub counts_paste : (n : ℕ) (cells : List S) (at : ℕ) (leaves : List S) → at + length leaves ≤ length cells → AllCount j n cells → AllByRecursion j.is_summary leaves
       → AllCount j n (paste cells at leaves (length leaves))
   counts_paste n cells at leaves fit all count k h =
       let size = length leaves in

@@ -1,5 +1,5 @@
 use Rattle.std.proofs.Common.{◌≤◌, length, take}
-use Rattle.std.specs.List.{AllByRecursion as All}
+use Rattle.std.specs.List.{AllByRecursion}
 use Rattle.station.specs.Laws.{Gives}
 use Rattle.traces.specs.Traces.{replayed}
 use Rattle.traces.proofs.replaying.replay.Given as goal
@@ -8,4 +8,4 @@ abbrev pub invariant-loop-item : goal.invariant-loop-item
 invariant-loop-item g l =
     let k = g.K.Station.rules in
     (l.item-index ≤ length l.items)
-    × (k.is_state l.initial.state → All k.is_item l.items → Gives k.is_state (replayed k l.initial.state (take l.item-index l.items)) l.state)
+    × (k.is_state l.initial.state → AllByRecursion k.is_item l.items → Gives k.is_state (replayed k l.initial.state (take l.item-index l.items)) l.state)

@@ -1,5 +1,5 @@
 use Rattle.std.proofs.Common.{◌≤◌, length, take}
-use Rattle.std.specs.List.{AllByRecursion as All}
+use Rattle.std.specs.List.{AllByRecursion}
 use Rattle.station.specs.Laws.{Gives}
 use Rattle.traces.specs.Traces.{EntryCounts, piece_summary}
 use Rattle.traces.proofs.summarizing.summarize.Given as goal
@@ -9,4 +9,4 @@ invariant-loop-entry g l =
     let j = g.K.Summary.joins in
     let k = g.K.Station.rules in
     (l.entry-index ≤ length l.trace)
-    × (All (EntryCounts k) l.trace → Gives j.is_summary (piece_summary j k (take l.entry-index l.trace)) l.sum)
+    × (AllByRecursion (EntryCounts k) l.trace → Gives j.is_summary (piece_summary j k (take l.entry-index l.trace)) l.sum)
