@@ -5,11 +5,9 @@
 mod edits;
 mod pass;
 mod showing;
-mod stops;
 mod trials;
 
 use crate::pass::{Pass, planned};
-use crate::stops::Stop;
 use pairs::CountedTandem;
 use run::Run;
 use station::{Recorded, Summary};
@@ -19,7 +17,7 @@ fn rehearse<K: Recorded>(
     rt: &HostRuntime,
     run: &mut Run<K>,
     pass: &Pass<K::Item>,
-) -> Result<(), Stop>
+) -> anyhow::Result<()>
 where
     K::State: Default + Display + Drop,
 {
@@ -31,20 +29,13 @@ where
     Ok(())
 }
 
-fn walk(rt: &HostRuntime) -> Result<(), Stop> {
+fn walk(rt: &HostRuntime) -> anyhow::Result<()> {
     let pass = planned()?;
     let mut cells = [CountedTandem::empty(); 16];
     let mut run = Run::open(&mut cells, 1);
     rehearse::<CountedTandem>(rt, &mut run, &pass)
 }
 
-fn main(rt: HostRuntime) -> Result<(), Stop> {
-    match walk(&rt) {
-        Err(Stop::Failed(error)) => {
-            let reported: anyhow::Result<()> = Err(error);
-            reported?;
-            Ok(())
-        }
-        ending => ending,
-    }
+fn main(rt: HostRuntime) -> anyhow::Result<()> {
+    walk(&rt)
 }

@@ -1,11 +1,12 @@
+ghost use Rattle.std.specs.Prelude.{◌≡◌, IsSome};
+
 use crate::pass::Pass;
 use crate::showing::{show, show_refusal};
-use crate::stops::Stop;
 use run::Run;
 use station::Station;
 use std::fmt::Display;
 
-// What can be seen while the trial is open.
+// What can be seen while the trial is open. The run stays as it is.
 fn show_open<K: Station>(
     rt: &HostRuntime,
     run: &mut Run<K>,
@@ -13,6 +14,7 @@ fn show_open<K: Station>(
 ) -> anyhow::Result<()>
 where
     K::State: Default + Display + Drop,
+    ensures { IsSome run.old.trial → run.new ≡ run.old }
 {
     show::<K>(rt, "tried", run, &pass.tried)?;
     let refusal = run.append(pass.appended[3]).err();
@@ -25,13 +27,17 @@ pub fn take_back<K: Station>(
     rt: &HostRuntime,
     run: &mut Run<K>,
     pass: &Pass<K::Item>,
-) -> Result<(), Stop>
+) -> anyhow::Result<()>
 where
     K::State: Default + Display + Drop,
 {
     let ticket = run.trial(2, pass.tried[2])?;
     let shown = show_open::<K>(rt, run, pass);
-    run.take_back(ticket)?;
+    // A ticket settles the trial that gave it.
+    match run.take_back(ticket) {
+        Ok(()) => {}
+        Err(_unsettled) => unreachable!(),
+    }
     shown?;
     show::<K>(rt, "taken back", run, &pass.recorded)?;
     Ok(())
@@ -42,12 +48,15 @@ pub fn keep<K: Station>(
     rt: &HostRuntime,
     run: &mut Run<K>,
     pass: &Pass<K::Item>,
-) -> Result<(), Stop>
+) -> anyhow::Result<()>
 where
     K::State: Default + Display + Drop,
 {
     let ticket = run.trial(2, pass.tried[2])?;
-    run.keep(ticket)?;
+    match run.keep(ticket) {
+        Ok(()) => {}
+        Err(_unsettled) => unreachable!(),
+    }
     show::<K>(rt, "kept", run, &pass.tried)?;
     Ok(())
 }

@@ -1,13 +1,14 @@
 -- From what becomes of a call to what a run has met; and when a call is granted.
-use Rattle.std.proofs.Common.{◌≡◌, ℕ, Bool, true, false, cond, eqb, List, [], ◌∷◌, ◌++◌, is_some, Some, None, Option, sym, refl, ap, ◌∙◌, subst}
+use Rattle.std.proofs.Common.{◌≡◌, ℕ, Bool, true, false, cond, eqb, List, [], ◌∷◌, ◌++◌, is_some, Some, None, Option, sym, refl, ap, ◌∙◌, subst, Ok, Err, is_ok, Result}
 use Rattle.std.proofs.lemmas.Bool.{both_ways, cond-true, cond-false, eq-eqb, eqb-true}
 use Rattle.station.specs.Laws.{Joins, Rules}
 use Rattle.station.specs.Records.{Records}
-use Rattle.station.specs.declared.refusals.Refusal.TheVariants.{NothingToSettle}
+use Rattle.station.specs.declared.refusals.Refusal.{Refusal}
+use Rattle.station.specs.declared.refusals.Refusal.TheVariants.{NothingToSettle, NoSuchPosition}
 use Rattle.traces.specs.declared.entries.Entry.{Entry}
 use Rattle.run.specs.Calls.{Call, Answer, Refused}
 use Rattle.run.specs.Rules.{Trial, Trace, Terms, Outcome, Grant, Refuse, answer_of, trace_of, unless_tried, provided, settled, outcome, after_from, after, empty_trace}
-use Rattle.run.specs.Standing.{Stands, Met, terms_of, place_of, tried_by}
+use Rattle.run.specs.Standing.{Stands, Met, terms_of, place_of, tried_by, IsSettledBy}
 use Rattle.run.specs.Serving.{Served}
 use Rattle.run.specs.declared.run.Run.{Run}
 
@@ -91,6 +92,15 @@ settling o run number shown place e n h =
     found : (b : Bool) (t : Option ℕ) → cond b t None ≡ Some place → (b ≡ true) × (t ≡ Some place)
     found true t h = (refl, h)
     found false t h = absurd (both_ways true (ap is_some (sym h)) refl)
+
+-- a ticket that settles an open trial, by what the code asks
+pub found_by : {S : Type 0} {shown : ℕ} {run : Run S} (s : IsSettledBy shown run) → tried_by shown run ≡ Some s.place
+found_by {S} {shown} {run} s = cond-true (eqb shown run.number) run.trial None (eq-eqb shown run.number s.numbered) ∙ s.tried
+
+-- a write that was granted
+pub granted_by : (b : Bool) (r : Result (Unit {0}) Refusal) → r ≡ cond b (Ok tt) (Err NoSuchPosition) → r ≡ Ok tt → b ≡ true
+granted_by true r e h = refl
+granted_by false r e h = absurd (both_ways true (ap is_ok (sym h ∙ e)) refl)
 
 pub settles : {S I D : Type 0} {o : Option (Trial I)} {number shown place : ℕ} (f : Trial I → Outcome S I D) (s : Settling o number shown place)
     → settled o number shown f ≡ f (record { place = place; old = s.old })

@@ -52,6 +52,13 @@ pub record Stands {S I D : Type 0} (j : Joins S) (k : Rules S I D) (given : List
 abbrev pub tried_by : {S : Type 0} → ℕ → Run S → Option ℕ
 tried_by shown run = cond (shown == run.number) run.trial None
 
+-- a trial is open that a ticket with this number settles, at a place that the cells have
+pub record IsSettledBy {S : Type 0} (shown : ℕ) (run : Run S) : Type 0 where
+  pub numbered : shown ≡ run.number
+  pub place : ℕ
+  pub tried : run.trial ≡ Some place
+  pub held : place < places_of run.cells.now
+
 -- the terms of a run with a number that was opened over some cells
 abbrev pub terms_of : {S I : Type 0} → List S → ℕ → Records I → Terms I
 terms_of given number records = record { room = places_of given; number = number; records = records }

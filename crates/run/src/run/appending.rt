@@ -1,4 +1,4 @@
-ghost use Rattle.std.specs.Prelude.{◌≡◌, OnErr};
+ghost use Rattle.std.specs.Prelude.{◌≡◌, IsErr, IsSome, OnErr};
 ghost use Rattle.run.specs.Calls.{Append, AtPosition, answer_by};
 ghost use Rattle.run.specs.Serving.{Serves};
 
@@ -11,6 +11,7 @@ impl<'a, K: Station> Run<'a, K> {
     pub fn append(&mut self, item: K::Item) -> Result<usize, Refusal>
         ensures serves { Serves K.Summary.joins K.Station.rules (Append item) self.old self.new (answer_by AtPosition result) }
         ensures refused { OnErr result (self.new ≡ self.old) }
+        ensures tried { IsSome self.old.trial → IsErr result }
         ensures same { self.new.cells.ghost_name ≡ self.old.cells.ghost_name }
     {
         if self.trial.is_some() {

@@ -1,7 +1,7 @@
-ghost use Rattle.std.specs.Prelude.{◌≡◌, OnErr};
+ghost use Rattle.std.specs.Prelude.{◌≡◌, IfOk, OnErr};
 ghost use Rattle.run.specs.Calls.{Try, answer_by, ticket_granted};
 ghost use Rattle.run.specs.Serving.{Serves};
-ghost use Rattle.run.specs.Standing.{tried_by};
+ghost use Rattle.run.specs.Standing.{IsSettledBy, tried_by};
 
 use crate::run::Run;
 use crate::tickets::Ticket;
@@ -13,6 +13,7 @@ impl<'a, K: Station> Run<'a, K> {
     pub fn trial(&mut self, position: usize, item: K::Item) -> Result<Ticket, Refusal>
         ensures serves { Serves K.Summary.joins K.Station.rules (Try position item) self.old self.new (answer_by ticket_granted result) }
         ensures refused { OnErr result (self.new ≡ self.old) }
+        ensures settled_by { IfOk result (λ ticket. IsSettledBy ticket.number self.new) }
         ensures same { self.new.cells.ghost_name ≡ self.old.cells.ghost_name }
     {
         if self.trial.is_some() {

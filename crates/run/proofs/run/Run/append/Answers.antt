@@ -1,7 +1,7 @@
-use Rattle.std.proofs.Common.{◌≡◌, ◌<◌, ltb, [], ◌∷◌, ◌++◌, length, sym, refl, ap, ◌∙◌, subst, arith}
+use Rattle.std.proofs.Common.{◌≡◌, ◌<◌, ltb, [], ◌∷◌, ◌++◌, length, sym, refl, ap, ◌∙◌, subst, arith, is_some}
 use Rattle.std.proofs.ByRecursion.{All-push}
 use Rattle.std.proofs.lemmas.List.{length_push}
-use Rattle.std.proofs.lemmas.Bool.{le-ltb, lt-ltb}
+use Rattle.std.proofs.lemmas.Bool.{le-ltb, lt-ltb, both_ways}
 use Rattle.station.specs.declared.refusals.Refusal.TheVariants.{TrialOpen, NoRoom}
 use Rattle.traces.specs.Traces.{EntryCounts}
 use Rattle.traces.specs.declared.entries.Entry.TheVariants.{Item}
@@ -21,6 +21,7 @@ returns-then-is_some g c = record {
       let t = after g.K.Summary.joins g.K.Station.rules (terms_of given number records) calls in
       served_refused (Append c.args.item) (Refused TrialOpen) (is_tried t.tried c.args.self.now.trial _ _ met.trying (sym c.if-is_some.ensures)) met;
   refused = refl;
+  tried = λ _. refl;
   same = refl;
 }
 
@@ -33,6 +34,7 @@ returns-then-position-capacity_of g c = record {
       let room : c.capacity_of.result ≡ places_of given = c.capacity_of.ensures.is ∙ same_places met.cells in
       served_refused (Append c.args.item) (Refused NoRoom) (gate_shut t.tried (ltb (length t.entries) (places_of given)) _ _ _ idle (le-ltb (length t.entries) (places_of given) (omega (arith, c.if-position-capacity_of.true)))) met;
   refused = refl;
+  tried = λ _. refl;
   same = refl;
 }
 
@@ -64,5 +66,6 @@ returns g c = record {
       (stands_edited met (es ++ (Item item ∷ [])) _ idle refl refl (omega arith) (omega arith) (All-push (EntryCounts k) es (Item item) met.items counts)
       (leaf_push laws steps agree (cells_were met) (Item item) s free put met.items counts kept (sym (c.of_item.ensures counts).is)));
   refused = tt;
+  tried = λ h. absurd (both_ways (is_some c.args.self.now.trial) (sym c.if-is_some.ensures) h);
   same = refl;
 }

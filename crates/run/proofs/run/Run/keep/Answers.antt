@@ -1,9 +1,10 @@
-use Rattle.std.proofs.Common.{length, None, sym, refl, ◌∙◌, subst, arith}
+use Rattle.std.proofs.lemmas.Bool.{both_ways}
+use Rattle.std.proofs.Common.{length, None, sym, refl, ◌∙◌, subst, arith, is_some, true, ap, Some, ◌≡◌}
 use Rattle.station.specs.declared.refusals.Refusal.TheVariants.{NothingToSettle}
 use Rattle.run.specs.Calls.{Keep, Done, Refused}
 use Rattle.run.specs.Rules.{Grant, after, trace}
 use Rattle.run.specs.Standing.{TrialCounts, terms_of}
-use Rattle.run.proofs.Outcomes.{served_refused, served_granted, unsettled, settling, settles, is_nothing, is_something}
+use Rattle.run.proofs.Outcomes.{served_refused, served_granted, unsettled, settling, settles, is_nothing, is_something, found_by}
 use Rattle.run.proofs.CellSteps.{leaf_kept}
 use Rattle.run.proofs.Steps.{cells_were, within_were, stands_as}
 use Rattle.run.proofs.run.Run.keep.Goals as goal
@@ -17,6 +18,10 @@ returns-then-is_none g c = record {
       served_refused (Keep shown) (Refused NothingToSettle)
       (unsettled t.tried run number shown _ met.trying met.numbered (sym c.tried_by.ensures ∙ is_nothing c.tried_by.result c.if-is_none.ensures)) met;
   refused = (refl, refl);
+  settles = λ s.
+      let found = found_by s in
+      let nothing : Some s.place ≡ None = sym found ∙ sym c.tried_by.ensures ∙ is_nothing c.tried_by.result c.if-is_none.ensures in
+      absurd (both_ways true (ap is_some nothing) refl);
   same = refl;
 }
 
@@ -43,5 +48,6 @@ returns g c = record {
       (stands_as met (trace es None) _ refl refl size within met.items tt
       (leaf_kept laws steps agree (cells_were met) es refl (omega arith) c.release_leaf.ensures));
   refused = tt;
+  settles = λ _. refl;
   same = refl;
 }

@@ -1,4 +1,4 @@
-use Rattle.std.proofs.Common.{ltb, length, set, None, sym, refl, ap, ◌∙◌, subst, arith}
+use Rattle.std.proofs.Common.{ltb, length, set, None, sym, refl, ap, ◌∙◌, subst, arith, is_some, true, Some, ◌≡◌}
 use Rattle.std.proofs.ByRecursion.{All-set}
 use Rattle.std.proofs.lemmas.List.{length-set}
 use Rattle.std.proofs.lemmas.Bool.{lt-ltb, both_ways}
@@ -9,7 +9,7 @@ use Rattle.tree.specs.Answers.{places_of}
 use Rattle.run.specs.Calls.{TakeBack, Done, Refused}
 use Rattle.run.specs.Rules.{Grant, after, trace}
 use Rattle.run.specs.Standing.{TrialCounts, terms_of}
-use Rattle.run.proofs.Outcomes.{served_refused, served_granted, unsettled, settling, settles}
+use Rattle.run.proofs.Outcomes.{served_refused, served_granted, unsettled, settling, settles, found_by}
 use Rattle.run.proofs.CellSteps.{leaf_restored}
 use Rattle.run.proofs.Steps.{cells_were, within_were, stands_as, refused_by}
 use Rattle.run.proofs.run.Run.take_back.Goals as goal
@@ -23,6 +23,10 @@ returns-in_default g c = record {
       served_refused (TakeBack shown) (Refused NothingToSettle)
       (unsettled t.tried run number shown _ met.trying met.numbered (sym c.tried_by.ensures ∙ c.in_default.is)) met;
   refused = (refl, refl);
+  settles = λ s.
+      let found = found_by s in
+      let nothing : Some s.place ≡ None = sym found ∙ sym c.tried_by.ensures ∙ c.in_default.is in
+      absurd (both_ways true (ap is_some nothing) refl);
   same = refl;
 }
 
@@ -40,6 +44,11 @@ returns-in-Err g c =
           let was = subst (TrialCounts g.K.Station.rules (length t.entries)) s.tried met.trials in
           let lt = was.0 in
           let within = within_were met in
+          absurd (both_ways (ltb i (places_of cells)) no.1 (lt-ltb i (places_of cells) (omega arith)));
+      settles = λ s.
+          let same : Some i ≡ Some s.place = sym c.in-Some.is ∙ c.tried_by.ensures ∙ found_by s in
+          let at : i ≡ s.place = cc in
+          let held = s.held in
           absurd (both_ways (ltb i (places_of cells)) no.1 (lt-ltb i (places_of cells) (omega arith)));
       refused = (refl, ap (λ xs. record { cells = set_vals xs run.cells; length = run.length; number = run.number; trial = run.trial }) left);
       same = refl;
@@ -69,5 +78,6 @@ returns g c = record {
       (stands_as met (trace (set es i old) None) _ refl refl (size ∙ sym long) (omega arith) (All-set (EntryCounts k) es i old was.1 met.items) tt
       (leaf_restored laws steps agree (cells_were met) old i was.0 within s.tried (c.in_default-restore_leaf.ensures.granted refl) met.items was.1));
   refused = tt;
+  settles = λ _. refl;
   same = refl;
 }
