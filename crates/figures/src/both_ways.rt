@@ -45,8 +45,8 @@ fn show<K: Station>(
 where
     K::State: Display + Drop,
 {
-    line(rt, kind, "replay", replay::<K>(start, items))?;
     let trace = entries(rt.alloc(), items)?;
+    line(rt, kind, "replay", replay::<K>(start, items))?;
     line(rt, kind, "joined", joined::<K>(&trace, start))
 }
 
