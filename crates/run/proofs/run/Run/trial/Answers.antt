@@ -1,6 +1,6 @@
 use Rattle.tree.specs.Answers.{places_of}
 use Rattle.tree.specs.Capacity.{capacity}
-use Rattle.std.proofs.Common.{◌<◌, ltb, length, get_or, set, Some, sym, refl, ap, ◌∙◌, arith, subst, ◌≡◌}
+use Rattle.std.proofs.Common.{◌<◌, ltb, length, get_or, set, Some, sym, refl, ap, ◌∙◌, arith, subst}
 use Rattle.std.proofs.ByRecursion.{All-set, All-get_or}
 use Rattle.std.proofs.lemmas.List.{length-set}
 use Rattle.std.proofs.lemmas.Bool.{le-ltb, lt-ltb, ltb-true}

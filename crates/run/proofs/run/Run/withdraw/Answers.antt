@@ -50,14 +50,13 @@ returns g c = record {
       let idle = not_tried t.tried run.trial met.trying (sym c.if-is_some.ensures) in
       let kept = kept_counts laws steps agree (length es) t.tried met.trials in
       let p = c.args.position in
-      let e = Withdrawn in
       let s = c.empty.result in
       let lt : p < length es = omega (arith, c.if-position-self.false) in
-      let long = length-set es p e in
-      served_granted (Withdraw c.args.position) Done (trace (set es p e) t.tried)
+      let long = length-set es p Withdrawn in
+      served_granted (Withdraw c.args.position) Done (trace (set es p Withdrawn) t.tried)
       (gate_open t.tried (ltb p (length es)) _ _ _ idle (lt-ltb p (length es) lt))
-      (stands_edited met (set es p e) _ idle refl refl (omega arith) (omega arith) (All-set (EntryCounts k) es p e tt met.items)
-      (leaf_set laws steps agree (cells_were met) e p s lt within (c.in_ok-write_leaf.ensures.granted refl) met.items tt kept (sym c.empty.ensures.is)));
+      (stands_edited met (set es p Withdrawn) _ idle refl refl (omega arith) (omega arith) (All-set (EntryCounts k) es p Withdrawn tt met.items)
+      (leaf_set laws steps agree (cells_were met) Withdrawn p s lt within (c.in_ok-write_leaf.ensures.granted refl) met.items tt kept (sym c.empty.ensures.is)));
   refused = tt;
   same = refl;
 }
