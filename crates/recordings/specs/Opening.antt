@@ -1,5 +1,5 @@
 -- How a pass begins.
-use Rattle.std.specs.Prelude.{◌≡◌, ℕ, List, length, Some, None, Ok, Err, Option, Result}
+use Rattle.std.specs.Prelude.{◌≡◌, ℕ, ◌+◌, List, length, Some, None, Ok, Err, Option, Result}
 use Rattle.std.specs.List.{AllByRecursion}
 use Rattle.station.specs.declared.letters.Letter.{Letter}
 use Rattle.block.specs.Layout.{Held, held_records, held_note}
@@ -32,6 +32,12 @@ abbrev pub Begins : List (List ℕ) → List ℕ → Opening → Type 0
 Begins notes b (opening.Data l at) = (at ≡ length notes) × (kind_of b ≡ Ok (Some l))
 Begins notes b (opening.Fault f) = (e : BlockFault) × ((f ≡ pass_fault (length notes) (load_fault (cause.Block e) 0)) × (kind_of b ≡ Err e))
 Begins notes b opening.Nothing = Unit {0}
+
+-- the number of the block at hand, where so many blocks have been at hand before the first note and now
+abbrev pub NumberedFrom : ℕ → ℕ → Opening → Type 0
+NumberedFrom before after (opening.Data l at) = before + at + 1 ≡ after
+NumberedFrom before after (opening.Fault f) = before + f.index + 1 ≡ after
+NumberedFrom before after opening.Nothing = Unit {0}
 
 abbrev pub BeginsBehindNotes : List ℕ → Opening → Type 0
 BeginsBehindNotes b o = (notes : List (List ℕ)) × (AllByRecursion IsNote notes × Begins notes b o)

@@ -8,6 +8,8 @@ pub struct Blocks<R> {
     input: R,
     block: [u8; BLOCK_SIZE],
     filled: usize,
+    // How many blocks have been at hand.
+    count: u64,
     ghost within: { filled ≤ 512 },
 }
 

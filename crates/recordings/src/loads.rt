@@ -1,5 +1,5 @@
-ghost use Rattle.std.specs.Prelude.{ℕ, List, [], IfOk};
-ghost use Rattle.recordings.specs.Hand.{at_hand};
+ghost use Rattle.std.specs.Prelude.{◌≡◌, ℕ, ◌+◌, List, [], IfErr, IfOk};
+ghost use Rattle.recordings.specs.Hand.{at_hand, read_count};
 ghost use Rattle.recordings.specs.Loading.{LoadedFrom};
 ghost use Rattle.run.specs.Standing.{Met, terms_of};
 
@@ -16,7 +16,8 @@ pub fn load_all<K: Recorded, R: Read>(
     first: u64,
     run: &mut Run<'_, K>,
 ) -> io::Result<Result<(), PassFault>>
-    ensures { (given : List K) (number : ℕ) → Met K.Summary.joins K.Station.rules K.Recorded.records given number [] run.old → IfOk result (LoadedFrom K.Summary.joins K.Station.rules given (terms_of given number K.Recorded.records) first (at_hand blocks.old) run.new) }
+    ensures loaded { (given : List K) (number : ℕ) → Met K.Summary.joins K.Station.rules K.Recorded.records given number [] run.old → IfOk result (LoadedFrom K.Summary.joins K.Station.rules given (terms_of given number K.Recorded.records) first (at_hand blocks.old) run.new) }
+    ensures numbered { IfOk result (λ ending. IfErr ending (λ at. read_count blocks.old + at.index ≡ read_count blocks.new + first)) }
 {
     for index in first..u64::MAX {
         if let Err(fault) = run.load(blocks.block()) {

@@ -1,5 +1,5 @@
-ghost use Rattle.std.specs.Prelude.{◌≡◌, ◌≤◌, [], length, IfOk, nat_lt};
-ghost use Rattle.recordings.specs.Hand.{at_hand};
+ghost use Rattle.std.specs.Prelude.{◌≡◌, ◌+◌, ◌≤◌, [], length, IfOk, nat_lt, if◌then◌else◌};
+ghost use Rattle.recordings.specs.Hand.{at_hand, read_count};
 
 use crate::blocks::{BLOCK_SIZE, Blocks};
 use std::io;
@@ -28,21 +28,30 @@ pub(crate) fn endless() -> io::Error {
 impl<R: Read> Blocks<R> {
     // In front of the first block.
     pub fn new(input: R) -> Blocks<R>
-        ensures { at_hand result ≡ [] }
+        ensures none { at_hand result ≡ [] }
+        ensures uncounted { read_count result ≡ 0 }
     {
         Blocks {
             input,
             block: [0; BLOCK_SIZE],
             filled: 0,
+            count: 0,
         }
     }
 
     // Goes on to the next block. False at the end of the input, with nothing at hand.
     pub fn advance(&mut self) -> io::Result<bool>
-        ensures { IfOk result (λ more. more ≡ nat_lt 0 (length (at_hand self.new))) }
+        ensures more { IfOk result (λ more. more ≡ nat_lt 0 (length (at_hand self.new))) }
+        ensures counted { IfOk result (λ more. read_count self.new ≡ (if more then read_count self.old + 1 else read_count self.old)) }
     {
+        let Some(count) = self.count.checked_add(1) else {
+            return Err(endless());
+        };
         let filled = fill(&mut self.input, &mut self.block)?;
         self.filled = filled;
+        if filled > 0 {
+            self.count = count;
+        }
         Ok(filled > 0)
     }
 

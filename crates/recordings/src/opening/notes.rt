@@ -1,6 +1,6 @@
 ghost use Rattle.std.specs.Prelude.{◌≡◌, IfOk};
-ghost use Rattle.recordings.specs.Hand.{at_hand};
-ghost use Rattle.recordings.specs.Opening.{kind_of, BeginsBehindNotes};
+ghost use Rattle.recordings.specs.Hand.{at_hand, read_count};
+ghost use Rattle.recordings.specs.Opening.{kind_of, BeginsBehindNotes, NumberedFrom};
 
 use crate::blocks::{Blocks, endless};
 use crate::faults::PassFault;
@@ -23,7 +23,8 @@ fn kind_of(bytes: &[u8]) -> Result<Option<Letter>, BlockFault>
 
 // Passes over the notes in front. The block that it stops at stays at hand.
 pub fn open_pass<R: Read>(blocks: &mut Blocks<R>) -> io::Result<Opening>
-    ensures { IfOk result (λ begun. BeginsBehindNotes (at_hand blocks.new) begun) }
+    ensures begins { IfOk result (λ begun. BeginsBehindNotes (at_hand blocks.new) begun) }
+    ensures numbered { IfOk result (λ begun. NumberedFrom (read_count blocks.old) (read_count blocks.new) begun) }
 {
     for index in 0..u64::MAX {
         if !blocks.advance()? {

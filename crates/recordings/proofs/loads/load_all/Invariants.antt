@@ -1,6 +1,6 @@
-use Rattle.std.proofs.Common.{ℕ, List, []}
+use Rattle.std.proofs.Common.{◌≡◌, ◌+◌, ℕ, List, []}
 use Rattle.run.specs.Standing.{Met, terms_of}
-use Rattle.recordings.specs.Hand.{at_hand}
+use Rattle.recordings.specs.Hand.{at_hand, read_count}
 use Rattle.recordings.proofs.Loading.{Loading}
 use Rattle.recordings.proofs.loads.load_all.Given as goal
 
@@ -9,5 +9,8 @@ invariant-loop-index g l =
     let j = g.K.Summary.joins in
     let k = g.K.Station.rules in
     let records = g.K.Recorded.records in
-    (start : List g.row.K.Denot) (number : ℕ) → Met j k records start number [] l.initial.run
-    → Loading j k start (terms_of start number records) l.initial.index (at_hand l.initial.blocks) l.index (at_hand l.blocks) l.run
+    record {
+      loading : (start : List g.row.K.Denot) (number : ℕ) → Met j k records start number [] l.initial.run
+          → Loading j k start (terms_of start number records) l.initial.index (at_hand l.initial.blocks) l.index (at_hand l.blocks) l.run;
+      counted : read_count l.initial.blocks + l.index ≡ read_count l.blocks + l.initial.index;
+    }
