@@ -1,11 +1,13 @@
 -- The bytes of a block.
-use Rattle.std.specs.Prelude.{◌≡◌, ℕ, ◌+◌, ◌-◌, ◌*◌, ◌/◌, ◌%◌, ◌≤◌, cond, List, ◌∷◌, ◌++◌, length, Some, None, Option, nat_lt}
+use Rattle.std.specs.Prelude.{◌≡◌, ℕ, ◌+◌, ◌-◌, ◌*◌, ◌/◌, ◌%◌, ◌≤◌, cond, List, ◌++◌, length, Some, None, Option, nat_lt}
 use Rattle.std.specs.List.{between}
-use Rattle.station.specs.Letters.{letter_byte}
 use Rattle.station.specs.declared.letters.Letter.{Letter}
 use Rattle.byte_fields.specs.Numbers.{digits}
 use Rattle.byte_fields.specs.Unused.{zeros}
 use Rattle.block.specs.Check.{check_of}
+use Rattle.block.specs.Heads.{head_bytes}
+use Rattle.block.specs.declared.heads.Head.{Head}
+use Rattle.block.specs.declared.heads.Head.TheVariants as head
 
 -- what a block holds: the bytes of a kind's records, or those of a note's text
 pub data Held : Type 0 where
@@ -16,15 +18,14 @@ pub data Held : Type 0 where
 abbrev pub sealed : List ℕ → List ℕ
 sealed bs = bs ++ digits 4 (check_of bs)
 
--- a letter, a number of records, the size of a text, and a content
-unfoldable pub framed : ℕ → ℕ → ℕ → List ℕ → List ℕ
-framed letter count size content =
-    sealed ((letter ∷ count ∷ digits 2 size) ++ (zeros 8 ++ (content ++ zeros (496 - length content))))
+-- a head, and the content that it announces
+unfoldable pub framed : Head → List ℕ → List ℕ
+framed h content = sealed (head_bytes h ++ (zeros 8 ++ (content ++ zeros (496 - length content))))
 
--- the block that holds something; 78 is the letter N
+-- the block that holds something
 abbrev pub block_of : Held → List ℕ
-block_of (held_records l bs) = framed (letter_byte l) (length bs / 16) 0 bs
-block_of (held_note text) = framed 78 0 (length text) text
+block_of (held_records l bs) = framed (head.Data l (length bs / 16)) bs
+block_of (held_note text) = framed (head.Note (length text)) text
 
 -- what a block has room for: whole records, or a text
 abbrev pub HasRoom : Held → Type 0

@@ -1,5 +1,6 @@
 pub mod Check
 pub mod Faults
+pub mod Heads
 pub mod Layout
 pub mod Reading
 pub mod Writing

@@ -1,17 +1,17 @@
 -- What reading a block gives, and in which order it refuses.
-use Rattle.std.specs.Prelude.{ℕ, ◌+◌, ◌*◌, cond, List, length, Some, None, Ok, Err, Option, Result, ◌==◌, nat_lt, slice_index}
+use Rattle.std.specs.Prelude.{ℕ, ◌+◌, cond, List, length, Ok, Err, Result, ◌==◌}
 use Rattle.std.specs.List.{between}
-use Rattle.station.specs.Letters.{letter_of}
-use Rattle.station.specs.declared.letters.Letter.{Letter}
 use Rattle.byte_fields.specs.Numbers.{field}
-use Rattle.byte_fields.specs.Unused.{first_used}
+use Rattle.byte_fields.specs.Unused.{unused_between}
+use Rattle.byte_fields.specs.declared.unused.UsedByte.{UsedByte}
 use Rattle.block.specs.declared.faults.BlockFault.{BlockFault}
 use Rattle.block.specs.declared.faults.BlockFault.TheVariants.{Length, Check, Layout}
 use Rattle.block.specs.declared.reading.Block.{Block}
 use Rattle.block.specs.declared.reading.Block.TheVariants as block
-use Rattle.block.specs.declared.reading.Head.{Head}
-use Rattle.block.specs.declared.reading.Head.TheVariants as head
+use Rattle.block.specs.declared.heads.Head.{Head}
+use Rattle.block.specs.declared.heads.Head.TheVariants as head
 use Rattle.block.specs.Check.{check_of}
+use Rattle.block.specs.Heads.{content_size, head_of}
 use Rattle.block.specs.Layout.{Held, held_records, held_note}
 
 -- what an answer holds behind its references
@@ -28,36 +28,18 @@ abbrev pub after : {X Y : Type 0} → Result X BlockFault → (X → Result Y Bl
 after (Ok x) f = f x
 after (Err e) f = Err e
 
--- the first four bytes: a letter, a number of records, and the size of a text
-abbrev pub data_head : Option Letter → ℕ → ℕ → Result Head BlockFault
-data_head None count size = Err (Layout 0)
-data_head (Some l) count size = cond (nat_lt 31 count) (Err (Layout 1)) (cond (size == 0) (Ok (head.Data l count)) (Err (Layout 2)))
-
-abbrev pub note_head : ℕ → ℕ → Result Head BlockFault
-note_head count size = cond (count == 0) (cond (nat_lt 496 size) (Err (Layout 2)) (Ok (head.Note size))) (Err (Layout 1))
-
-abbrev pub head_at : ℕ → ℕ → ℕ → Result Head BlockFault
-head_at letter count size = cond (letter == 78) (note_head count size) (data_head (letter_of letter) count size)
-
-abbrev pub head_of : List ℕ → Result Head BlockFault
-head_of bs = head_at (slice_index bs 0) (slice_index bs 1) (field 2 4 bs)
-
--- the bytes that a head announces, and what they are
-abbrev pub content_size : Head → ℕ
-content_size (head.Data l count) = 16 * count
-content_size (head.Note size) = size
-
+-- what the bytes that a head announces are
 abbrev pub held_by : Head → List ℕ → Held
 held_by (head.Data l count) content = held_records l content
 held_by (head.Note size) content = held_note content
 
 -- bytes that must be zero, from one place up to another
-abbrev pub unused_by : ℕ → Option ℕ → Result (Unit {0}) BlockFault
-unused_by from None = Ok tt
-unused_by from (Some place) = Err (Layout (from + place))
+abbrev pub unused_by : Result (Unit {0}) UsedByte → Result (Unit {0}) BlockFault
+unused_by (Ok u) = Ok u
+unused_by (Err used) = Err (Layout used.place)
 
 abbrev pub unused_in : ℕ → ℕ → List ℕ → Result (Unit {0}) BlockFault
-unused_in from to bs = unused_by from (first_used (between from to bs))
+unused_in from to bs = unused_by (unused_between from to bs)
 
 -- the layout from the lowest byte on, and what the block holds
 abbrev pub behind_of : List ℕ → Head → Unit {0} → Result Held BlockFault

@@ -12,10 +12,10 @@ pub fn check_of(bytes: &[u8]) -> u32
     ensures is { result ≡ check_of bytes.now }
     ensures example { check_of (block_of (held_records C (1 ∷ zeros 15))) ≡ 83 }
 {
-    let end = bytes.len().min(CHECK_PLACE);
+    let front = &bytes[..bytes.len().min(CHECK_PLACE)];
     let mut sum: u32 = 1;
-    for i in 0..end {
-        sum += (i as u32 + 1) * u32::from(bytes[i]);
+    for (i, byte) in front.iter().enumerate() {
+        sum += (i as u32 + 1) * u32::from(*byte);
     }
     sum
 }

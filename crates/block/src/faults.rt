@@ -1,8 +1,9 @@
 ghost use Rattle.std.specs.Prelude.{◌≡◌};
 ghost use Rattle.block.specs.Faults.{block_fault, write_fault};
-ghost use Rattle.station.specs.Refusals.{number_of};
+ghost use Rattle.block.specs.declared.faults.BlockFault.TheVariants as faults;
 
 use crate::layout::{CHECK_PLACE, COUNT_PLACE, LENGTH_PLACE};
+use byte_fields::UsedByte;
 use station::Refusal;
 
 // Why bytes are no block: so many bytes are none, the check differs, or a byte offends the layout, the lowest that does.
@@ -14,16 +15,6 @@ pub enum BlockFault {
 }
 
 impl BlockFault {
-    pub fn number(self) -> u8
-        ensures { result ≡ number_of (block_fault self).refusal }
-    {
-        match self {
-            BlockFault::Length(_) => Refusal::BlockLength.number(),
-            BlockFault::Check => Refusal::BlockCheck.number(),
-            BlockFault::Layout(_) => Refusal::Layout.number(),
-        }
-    }
-
     pub fn place(self) -> usize
         ensures { result ≡ (block_fault self).place }
     {
@@ -32,6 +23,26 @@ impl BlockFault {
             BlockFault::Check => CHECK_PLACE,
             BlockFault::Layout(place) => place,
         }
+    }
+}
+
+impl From<BlockFault> for Refusal {
+    ghost from_gives = { λ fault refusal. refusal ≡ (block_fault fault).refusal };
+
+    fn from(fault: BlockFault) -> Refusal {
+        match fault {
+            BlockFault::Length(_) => Refusal::BlockLength,
+            BlockFault::Check => Refusal::BlockCheck,
+            BlockFault::Layout(_) => Refusal::Layout,
+        }
+    }
+}
+
+impl From<UsedByte> for BlockFault {
+    ghost from_gives = { λ used fault. fault ≡ faults.Layout used.place };
+
+    fn from(used: UsedByte) -> BlockFault {
+        BlockFault::Layout(used.place)
     }
 }
 
@@ -44,16 +55,6 @@ pub enum WriteFault {
 }
 
 impl WriteFault {
-    pub fn number(self) -> u8
-        ensures { result ≡ number_of (write_fault self).refusal }
-    {
-        match self {
-            WriteFault::Memory(_) => Refusal::ShortMemory.number(),
-            WriteFault::Items => Refusal::Layout.number(),
-            WriteFault::Text => Refusal::Layout.number(),
-        }
-    }
-
     pub fn place(self) -> usize
         ensures { result ≡ (write_fault self).place }
     {
@@ -61,6 +62,17 @@ impl WriteFault {
             WriteFault::Memory(length) => length,
             WriteFault::Items => COUNT_PLACE,
             WriteFault::Text => LENGTH_PLACE,
+        }
+    }
+}
+
+impl From<WriteFault> for Refusal {
+    ghost from_gives = { λ fault refusal. refusal ≡ (write_fault fault).refusal };
+
+    fn from(fault: WriteFault) -> Refusal {
+        match fault {
+            WriteFault::Memory(_) => Refusal::ShortMemory,
+            WriteFault::Items | WriteFault::Text => Refusal::Layout,
         }
     }
 }

@@ -4,6 +4,7 @@
 mod check;
 mod faults;
 mod framing;
+mod heads;
 mod items;
 mod layout;
 mod notes;
@@ -13,6 +14,7 @@ mod reading;
 pub use check::check_of;
 pub use faults::{BlockFault, WriteFault};
 pub use items::write_items;
+pub use layout::BLOCK_SIZE;
 pub use notes::write_note;
 pub use pieces::record_at;
 pub use reading::{Block, read_block};

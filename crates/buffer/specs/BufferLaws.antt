@@ -1,6 +1,6 @@
 -- The laws of the slotted buffer.
 use Rattle.std.specs.Prelude.{◌≡◌, ℕ, ◌+◌, ◌-◌, ◌≤◌, min}
-use Rattle.std.proofs.Common.{sym, ap, ◌∙◌, arith}
+use Rattle.std.proofs.Common.{sym, ap, ◌∙◌, arith, rules}
 use Rattle.station.specs.Laws.{JoinLaws, StationLaws, Agreement}
 use Rattle.buffer.specs.Tallies.{wrapped, less}
 use Rattle.buffer.specs.Steps.{buffer_state}
@@ -31,10 +31,10 @@ m_same x y z = omega arith
 
 pub buffer_laws : JoinLaws buffer_joins
 buffer_laws = record {
-  empty_counts = (omega arith, omega arith, omega arith, omega arith, omega arith);
-  joined_counts = λ x y hx hy. (omega arith, omega arith, omega arith, omega arith, omega arith);
-  empty_left = λ x h. summary_eq (omega arith) (omega arith) (omega arith) (omega arith) (omega arith);
-  empty_right = λ x h. summary_eq (omega arith) (omega arith) (omega arith) (omega arith) (omega arith);
+  empty_counts = search rules;
+  joined_counts = λ x y hx hy. search rules;
+  empty_left = λ x h. search rules;
+  empty_right = λ x h. search rules;
   associative = λ x y z hx hy hz. summary_eq
       (bound_joined x.alpha x.theta x.g y.alpha y.theta y.g z.alpha hx.0 hy.0)
       (bound_joined x.alpha x.theta x.g y.alpha y.theta y.g z.theta hx.0 hy.0)
@@ -61,9 +61,9 @@ slot_all a c b x d =
 
 pub buffer_steps : StationLaws buffer_joins buffer_rules
 buffer_steps = record {
-  stepped_counts = λ d i hd hi. (omega arith, omega arith, omega arith);
-  of_item_counts = λ i h. (omega arith, omega arith, omega arith, omega arith, omega arith);
-  effect_counts = λ x d hx hd. (omega arith, omega arith, omega arith);
+  stepped_counts = λ d i hd hi. search rules;
+  of_item_counts = λ i h. search rules;
+  effect_counts = λ x d hx hd. search rules;
   item_steps = λ i d hi hd. state_eq
       (slot_queue i.arrivals i.service i.limit d.queue)
       (ap (λ v. wrapped (d.lost + v)) (slot_lost i.arrivals i.limit d.queue))
@@ -72,7 +72,7 @@ buffer_steps = record {
 
 pub buffer_agrees : Agreement buffer_joins buffer_rules
 buffer_agrees = record {
-  empty = λ d h. state_eq (omega arith) (omega arith) (omega arith);
+  empty = λ d h. search rules;
   join = λ x y d hx hy hd.
       let queue = queue_joined x.alpha x.theta x.g y.alpha y.theta y.g d.queue hx.0 hy.0 in
       let over = over_joined x.alpha x.theta x.g y.theta d.queue hx.0 in

@@ -8,7 +8,7 @@ use Rattle.station.specs.declared.letters.Letter.TheVariants.{Q}
 use Rattle.station.specs.declared.records.RecordFault.{RecordFault}
 use Rattle.byte_fields.specs.Numbers.{digits, field}
 use Rattle.byte_fields.specs.Unused.{zeros, first_used}
-use Rattle.buffer.specs.Steps.{slot}
+use Rattle.buffer.specs.Records.{slot_in}
 use Rattle.buffer.specs.declared.slots.Slot.{Slot}
 use Rattle.lock.specs.Records.{placed_event}
 use Rattle.lock.specs.declared.events.LockEvent.{LockEvent}
@@ -19,7 +19,7 @@ beside_slot s (Err e) = Err e
 beside_slot s (Ok event) = Ok (pair event s)
 
 abbrev pub locked_read : List ℕ → Result (Pair LockEvent Slot) RecordFault
-locked_read bs = unless_used 7 (first_used (between 7 16 bs)) (beside_slot (slot (field 0 2 bs) (field 2 4 bs) (field 4 6 bs)) (placed_event 6 (field 6 7 bs)))
+locked_read bs = unless_used 7 (first_used (between 7 16 bs)) (beside_slot (slot_in bs) (placed_event 6 (field 6 7 bs)))
 
 abbrev pub locked_written : Pair LockEvent Slot → List ℕ
 locked_written p = digits 2 p.second.arrivals ++ (digits 2 p.second.service ++ (digits 2 p.second.limit ++ (digits 1 p.first.letter ++ zeros 9)))

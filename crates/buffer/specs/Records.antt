@@ -9,8 +9,12 @@ use Rattle.byte_fields.specs.Unused.{zeros, first_used}
 use Rattle.buffer.specs.Steps.{slot}
 use Rattle.buffer.specs.declared.slots.Slot.{Slot}
 
+-- the slot whose numbers stand in some bytes
+abbrev pub slot_in : List ℕ → Slot
+slot_in bs = slot (field 0 2 bs) (field 2 4 bs) (field 4 6 bs)
+
 abbrev pub slot_read : List ℕ → Result Slot RecordFault
-slot_read bs = unless_used 6 (first_used (between 6 16 bs)) (Ok (slot (field 0 2 bs) (field 2 4 bs) (field 4 6 bs)))
+slot_read bs = unless_used 6 (first_used (between 6 16 bs)) (Ok (slot_in bs))
 
 abbrev pub slot_written : Slot → List ℕ
 slot_written i = digits 2 i.arrivals ++ (digits 2 i.service ++ (digits 2 i.limit ++ zeros 10))

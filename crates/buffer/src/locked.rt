@@ -7,15 +7,16 @@ ghost use Rattle.buffer.specs.LockedLaws.{locked_laws};
 
 use crate::slots::Slot;
 use crate::summaries::BufferSummary;
-use byte_fields::{first_used, put_number, read_number};
+use byte_fields::{check_unused, put_number, read_number};
 use lock::{LockEvent, LockMap};
-use station::{Letter, Pair, RecordFault, Recorded, RecordedWith};
+use station::{Letter, Pair, RECORD_SIZE, RecordFault, Recorded, RecordedWith};
+use std::ops::Range;
 
 // Receiver lock beside the slotted buffer: a slot's record, with the letter behind the slot; the bytes
 // behind that are 0.
-const LETTER_PLACE: usize = 6;
+const LETTER: Range<usize> = 6..7;
 
-const UNUSED_PLACE: usize = 7;
+const UNUSED: Range<usize> = 7..RECORD_SIZE;
 
 impl RecordedWith<LockMap> for BufferSummary {
     ghost together = { locked_records };
@@ -26,22 +27,19 @@ impl RecordedWith<LockMap> for BufferSummary {
         Letter::Q
     }
 
-    fn read_with(bytes: [u8; 16]) -> Result<Pair<LockEvent, Slot>, RecordFault> {
-        if let Some(place) = first_used(&bytes[UNUSED_PLACE..16]) {
-            return Err(RecordFault::Layout(UNUSED_PLACE + place));
-        }
-        let letter = read_number(&bytes[LETTER_PLACE..UNUSED_PLACE]);
-        let first = LockEvent::of_field(letter as u8, LETTER_PLACE)?;
+    fn read_with(bytes: [u8; RECORD_SIZE]) -> Result<Pair<LockEvent, Slot>, RecordFault> {
+        check_unused(&bytes, UNUSED)?;
+        let first = LockEvent::of_field(read_number(&bytes[LETTER]) as u8, LETTER.start)?;
         let second = Slot::in_front(bytes);
         Ok(Pair { first, second })
     }
 
-    fn write_with(item: Pair<LockEvent, Slot>) -> [u8; 16]
+    #[tactic(auto, unfolding(byte_fields::specs::Unused::zeros))]
+    fn write_with(item: Pair<LockEvent, Slot>) -> [u8; RECORD_SIZE]
         ensures is { result ≡ locked_written item }
         ensures back { (pair_rules lock_rules buffer_rules).is_item item → locked_read result ≡ Ok item }
     {
-        let letter = u64::from(item.first.letter());
         let bytes = BufferSummary::write(item.second);
-        put_number(bytes, LETTER_PLACE, UNUSED_PLACE, letter)
+        put_number(bytes, LETTER, u64::from(item.first.letter()))
     }
 }

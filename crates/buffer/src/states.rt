@@ -32,6 +32,7 @@ impl BufferState {
     }
 }
 
+// Written out: a pass starts from zeros because the rules say so, and a derive would not be held to that here.
 impl Default for BufferState {
     ghost is_default = { λ s. s ≡ buffer_state 0 0 0 };
 

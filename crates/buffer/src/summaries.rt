@@ -1,4 +1,4 @@
-ghost use Rattle.std.specs.Prelude.{◌≡◌, ◌+◌, ◌≤◌, min};
+ghost use Rattle.std.specs.Prelude.{◌≡◌, ◌+◌, ◌-◌, ◌≤◌, min};
 ghost use Rattle.buffer.specs.Summaries.{held, queue_behind, bound_before, buffer_joins, buffer_rules};
 ghost use Rattle.buffer.specs.Tallies.{queue_limit};
 ghost use Rattle.buffer.specs.BufferLaws.{buffer_laws, buffer_steps, buffer_agrees};
@@ -22,13 +22,6 @@ pub struct BufferSummary {
 // No queue is longer.
 const QUEUE_LIMIT: u16 = 65535;
 
-// Holds x in low..high, at low where low lies above high.
-fn hold(x: u32, low: u16, high: u16) -> u16
-    ensures { result ≡ held low high x }
-{
-    u32::from(low).max(x.min(u32::from(high))) as u16
-}
-
 impl BufferSummary {
     // Alpha, theta, g, k and m.
     pub fn numbers(self) -> (u16, u16, u16, u32, u32)
@@ -37,12 +30,26 @@ impl BufferSummary {
         (self.alpha, self.theta, self.g, self.k, self.m)
     }
 
+    // Holds x in alpha..theta, at alpha where alpha lies above theta.
+    fn hold(self, x: u32) -> u16
+        ensures { result ≡ held self.alpha self.theta x }
+    {
+        self.alpha.max(x.min(u32::from(self.theta)) as u16)
+    }
+
     // What a queue becomes. A value that is no summary could lead past the limit, so the sum stops there.
     fn queue_behind(self, queue: u16) -> u16
         ensures { result ≡ min (queue_behind self.alpha self.theta self.g queue) queue_limit }
     {
-        let above = hold(u32::from(queue), self.alpha, self.theta) - self.alpha;
+        let above = self.hold(u32::from(queue)) - self.alpha;
         self.g.saturating_add(above)
+    }
+
+    // What a queue has above theta, which is lost.
+    fn over(self, queue: u16) -> u32
+        ensures { result ≡ queue - self.theta }
+    {
+        u32::from(queue.saturating_sub(self.theta))
     }
 
     // A bound on the queue behind the stretch, as one on the queue before it: the queue that becomes it, if one does.
@@ -51,11 +58,7 @@ impl BufferSummary {
         ensures below { self.alpha + bound ≤ self.g → result ≡ self.alpha }
     {
         let sum = u32::from(self.alpha) + u32::from(bound);
-        hold(
-            sum.saturating_sub(u32::from(self.g)),
-            self.alpha,
-            self.theta,
-        )
+        self.hold(sum.saturating_sub(u32::from(self.g)))
     }
 }
 
@@ -75,7 +78,7 @@ impl Summary for BufferSummary {
     }
 
     fn join(self, later: BufferSummary) -> BufferSummary {
-        let over = u32::from(self.g.saturating_sub(later.theta));
+        let over = later.over(self.g);
         BufferSummary {
             alpha: self.bound_before(later.alpha),
             theta: self.bound_before(later.theta),
@@ -125,9 +128,7 @@ impl Station for BufferSummary {
     fn effect(self, state: BufferState) -> BufferState {
         let (queue, lost, served) = state.numbers();
         let after = self.queue_behind(queue);
-        let gone = self
-            .k
-            .wrapping_add(u32::from(queue.saturating_sub(self.theta)));
+        let gone = self.k.wrapping_add(self.over(queue));
         let come = served.wrapping_add(u32::from(queue)).wrapping_add(self.m);
         BufferState::new(
             after,

@@ -1,5 +1,5 @@
 -- Numbers as bytes, lowest byte first.
-use Rattle.std.specs.Prelude.{ℕ, zero, suc, ◌+◌, ◌-◌, ◌*◌, ◌/◌, ◌%◌, cond, ◌&&◌, List, [], ◌∷◌, ◌++◌, take, drop, nat_le}
+use Rattle.std.specs.Prelude.{ℕ, zero, suc, ◌+◌, ◌-◌, ◌*◌, ◌/◌, ◌%◌, cond, ◌&&◌, List, [], ◌∷◌, ◌++◌, take, drop, length, nat_le}
 use Rattle.std.specs.List.{between}
 
 -- the lowest digits of n to the base 256, so many as the width
@@ -16,6 +16,6 @@ numeral (b ∷ bs) = b + 256 * numeral bs
 abbrev pub field : ℕ → ℕ → List ℕ → ℕ
 field from to bs = numeral (between from to bs)
 
--- a record of 16 bytes with a number in the bytes from one place up to another, if there are such bytes
+-- bytes with a number in those from one place up to another, if there are such bytes
 abbrev pub with_field : ℕ → ℕ → ℕ → List ℕ → List ℕ
-with_field from to n bs = cond (nat_le from to && nat_le to 16) (take from bs ++ (digits (to - from) n ++ drop to bs)) bs
+with_field from to n bs = cond (nat_le from to && nat_le to (length bs)) (take from bs ++ (digits (to - from) n ++ drop to bs)) bs

@@ -7,4 +7,4 @@ mod unused;
 
 pub use numbers::{read_number, write_number};
 pub use records::put_number;
-pub use unused::first_used;
+pub use unused::{UsedByte, check_unused, first_used};

@@ -2,17 +2,16 @@ ghost use Rattle.std.specs.Prelude.{◌≡◌};
 ghost use Rattle.byte_fields.specs.Numbers.{with_field};
 
 use crate::numbers::write_number;
+use std::ops::Range;
 
-const RECORD_SIZE: usize = 16;
-
-// A record with a number in the bytes from one place up to another; there is no such field where the places are turned
-// or lie outside.
-pub fn put_number(old: [u8; 16], from: usize, to: usize, number: u64) -> [u8; 16]
-    ensures { result ≡ with_field from to number old }
+// Some bytes with a number in the places of a field; there is no such field where the places are turned or lie outside.
+pub fn put_number<const N: usize>(bytes: [u8; N], places: Range<usize>, number: u64) -> [u8; N]
+    ensures { result ≡ with_field places.start places.end number bytes.entry }
 {
-    let mut bytes = old;
-    if from <= to && to <= RECORD_SIZE {
-        write_number(number, &mut bytes[from..to]);
+    let mut bytes = bytes;
+    let all = &mut bytes[..];
+    if places.start <= places.end && places.end <= N {
+        write_number(number, &mut all[places]);
     }
     bytes
 }

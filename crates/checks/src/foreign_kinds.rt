@@ -1,7 +1,7 @@
 use crate::readings::{Peak, PeakSummary, Reading};
 use crate::visits::{Visit, VisitSummary, Visits};
 use station::{Pair, Station, Summary};
-use traces::{Entry, gather, replay, summarize};
+use traces::{gather, replay, summarize};
 
 type Both = Pair<PeakSummary, VisitSummary>;
 
@@ -25,14 +25,10 @@ fn a_maximum_beside_a_counter(rt: HostRuntime) {
     let start = state(5, 4_294_901_756);
     let end = state(9, 10);
     assert_eq!(rt; replay::<Both>(start, &items), end);
-    let sum = gather(&[
-        Both::of_item(items[0]),
-        Both::of_item(items[1]),
-        Both::of_item(items[2]),
-    ]);
+    let sum = gather(&items.map(Both::of_item));
     assert_eq!(rt; sum.effect(start), end);
-    let front = summarize::<Both>(&[Entry::Item(items[0]), Entry::Withdrawn]);
-    let back = summarize::<Both>(&[Entry::Item(items[1]), Entry::Item(items[2])]);
+    let front = summarize::<Both>(&[Some(items[0]), None]);
+    let back = summarize::<Both>(&[Some(items[1]), Some(items[2])]);
     assert_eq!(rt; front.join(back), sum);
     assert_eq!(rt; gather::<Both>(&[]), Both::empty());
 }

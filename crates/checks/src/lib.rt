@@ -8,6 +8,8 @@ pub use readings::{Peak, PeakSummary, Reading};
 pub use visits::{Visit, VisitSummary, Visits};
 
 #[cfg(test)]
+mod bytes;
+#[cfg(test)]
 mod damaged_blocks;
 #[cfg(test)]
 mod foreign_kinds;

@@ -2,11 +2,12 @@
 use buffer::{BufferState, BufferSummary, Slot};
 use counts::{CountState, CountSummary, FrameCount};
 use lock::{LockEvent, LockMap, LockState};
-use pairs::{CountedTandem, LockedBuffer};
+use pairs::{CountedTandem, LockedBuffer, LockedState};
 use server::{Job, ServerState, ServerSummary};
-use station::{Pair, Station};
+use station::{Pair, Refusal, Station};
 use std::alloc::Global;
 use std::fmt::{Debug, Display};
+use std::iter::once;
 use std::process::Abort;
 use std::test::Fail;
 use tandem::{TandemJob, TandemState, TandemSummary};
@@ -26,17 +27,17 @@ impl Noise {
         ((self.x / 256) % 65_536) as u16
     }
 
-    fn job(&mut self) -> Result<Job, Fail> {
+    fn job(&mut self) -> Result<Job, Refusal> {
         let arrival = u64::from(self.next());
         let service = u32::from(self.next() % 512);
-        Ok(Job::new(arrival, service)?)
+        Job::new(arrival, service)
     }
 
-    fn tandem_job(&mut self) -> Result<TandemJob, Fail> {
+    fn tandem_job(&mut self) -> Result<TandemJob, Refusal> {
         let arrival = u64::from(self.next());
         let first = u32::from(self.next() % 512);
         let second = u32::from(self.next() % 512);
-        Ok(TandemJob::new(arrival, first, second)?)
+        TandemJob::new(arrival, first, second)
     }
 
     fn slot(&mut self) -> Slot {
@@ -45,16 +46,16 @@ impl Noise {
         Slot::new(arrivals, service, self.next() % 150)
     }
 
-    fn event(&mut self) -> Result<LockEvent, Fail> {
+    fn event(&mut self) -> Result<LockEvent, Refusal> {
         let letters = ['G', 'G', 'G', 'B', 'B', 'L', 'S', 'T'];
-        Ok(LockEvent::new(letters[usize::from(self.next() % 8)])?)
+        LockEvent::new(letters[usize::from(self.next() % 8)])
     }
 
     // The count that follows, by one or by a jump.
-    fn frame(&mut self, last: u16) -> Result<FrameCount, Fail> {
+    fn frame(&mut self, last: u16) -> Result<FrameCount, Refusal> {
         let jumps = [1, 1, 1, 1, 0, 3, 8_000, 16_000];
         let jump: u32 = jumps[usize::from(self.next() % 8)];
-        Ok(FrameCount::new(((u32::from(last) + jump) % 16_384) as u16)?)
+        FrameCount::new(((u32::from(last) + jump) % 16_384) as u16)
     }
 }
 
@@ -76,6 +77,22 @@ fn cut<K: Station>(
     )
 }
 
+// The items that are made one after another of noise with a seed.
+fn made<I: Drop, F: FnMut(&mut Noise) -> Result<I, Refusal>>(
+    heap: Global,
+    seed: u64,
+    mut make: F,
+) -> Result<Vec<I>, Fail>
+    requires { F.IsAlwaysCallable make }
+{
+    let mut noise = Noise { x: seed };
+    let mut items = Vec::new(heap);
+    for _ in 0..ITEMS {
+        items.push(make(&mut noise)?)?;
+    }
+    Ok(items)
+}
+
 fn agree<K: Station>(
     rt: &impl Abort,
     heap: Global,
@@ -87,11 +104,10 @@ where
     K::State: PartialEq + Debug + Display + Drop,
 {
     let end = replay::<K>(start, items);
-    let mut trace = Vec::new(heap);
-    for item in items {
-        trace.push(Entry::Item(*item))?;
-        trace.push(Entry::Withdrawn)?;
-    }
+    let trace: Vec<Entry<K::Item>> = items
+        .iter()
+        .flat_map(|item| once(Some(*item)).chain(once(None)))
+        .collect(heap)?;
     for place in 0..20usize {
         let (left, right) = cut::<K>(&trace, start, place * place, place * 21);
         assert!(rt; left == end);
@@ -104,106 +120,81 @@ where
 
 #[test]
 fn of_one_server(rt: HostRuntime) -> Result<(), Fail> {
-    let mut noise = Noise { x: 1 };
-    let mut items = Vec::new(rt.alloc());
-    for _ in 0..ITEMS {
-        items.push(noise.job()?)?;
-    }
-    agree::<ServerSummary>(&rt, rt.alloc(), ServerState::new(77)?, &items, "110779")
+    let jobs = made(rt.alloc(), 1, Noise::job)?;
+    agree::<ServerSummary>(&rt, rt.alloc(), ServerState::new(77)?, &jobs, "110779")
 }
 
 #[test]
 fn of_servers_in_tandem(rt: HostRuntime) -> Result<(), Fail> {
-    let mut noise = Noise { x: 2 };
-    let mut items = Vec::new(rt.alloc());
-    for _ in 0..ITEMS {
-        items.push(noise.tandem_job()?)?;
-    }
+    let jobs = made(rt.alloc(), 2, Noise::tandem_job)?;
     agree::<TandemSummary>(
         &rt,
         rt.alloc(),
         TandemState::new(5, 900)?,
-        &items,
+        &jobs,
         "113406 120066",
     )
 }
 
 #[test]
 fn of_the_buffer(rt: HostRuntime) -> Result<(), Fail> {
-    let mut noise = Noise { x: 3 };
-    let mut items = Vec::new(rt.alloc());
-    for _ in 0..ITEMS {
-        items.push(noise.slot())?;
-    }
+    let slots = made(rt.alloc(), 3, |noise| Ok(noise.slot()))?;
     let start = BufferState::new(65_535, u32::MAX, u32::MAX);
-    agree::<BufferSummary>(&rt, rt.alloc(), start, &items, "20 69146 5730")
+    agree::<BufferSummary>(&rt, rt.alloc(), start, &slots, "20 69146 5730")
 }
 
 #[test]
 fn of_receiver_lock(rt: HostRuntime) -> Result<(), Fail> {
-    let mut noise = Noise { x: 4 };
-    let mut items = Vec::new(rt.alloc());
-    for _ in 0..ITEMS {
-        items.push(noise.event()?)?;
-    }
-    agree::<LockMap>(&rt, rt.alloc(), LockState::new(6)?, &items, "7")
+    let events = made(rt.alloc(), 4, Noise::event)?;
+    agree::<LockMap>(&rt, rt.alloc(), LockState::new(6)?, &events, "7")
 }
 
 #[test]
 fn of_frame_counts(rt: HostRuntime) -> Result<(), Fail> {
-    let mut noise = Noise { x: 5 };
-    let mut items = Vec::new(rt.alloc());
     let mut last = 16_380;
-    for _ in 0..ITEMS {
+    let frames = made(rt.alloc(), 5, |noise| {
         let frame = noise.frame(last)?;
         last = frame.count();
-        items.push(frame)?;
-    }
+        Ok(frame)
+    })?;
     agree::<CountSummary>(
         &rt,
         rt.alloc(),
         CountState::default(),
-        &items,
+        &frames,
         "12265 152023 27 23",
     )
 }
 
 #[test]
 fn of_counts_beside_tandem(rt: HostRuntime) -> Result<(), Fail> {
-    let mut noise = Noise { x: 6 };
-    let mut items = Vec::new(rt.alloc());
     let mut last = 16_380;
-    for _ in 0..ITEMS {
+    let items = made(rt.alloc(), 6, |noise| {
         let first = noise.frame(last)?;
         last = first.count();
         let second = noise.tandem_job()?;
-        items.push(Pair { first, second })?;
-    }
+        Ok(Pair { first, second })
+    })?;
     let start = Pair {
         first: CountState::new(Some(16_000), 0, 0, 0)?,
         second: TandemState::default(),
     };
-    agree::<CountedTandem>(
-        &rt,
-        rt.alloc(),
-        start,
-        &items,
-        "14883 280021 24 30 111908 113514",
-    )
+    let figure = "14883 280021 24 30 111908 113514";
+    agree::<CountedTandem>(&rt, rt.alloc(), start, &items, figure)
 }
 
 #[test]
 fn of_lock_beside_buffer(rt: HostRuntime) -> Result<(), Fail> {
-    let mut noise = Noise { x: 7 };
-    let mut items = Vec::new(rt.alloc());
-    for _ in 0..ITEMS {
+    let items = made(rt.alloc(), 7, |noise| {
         let first = noise.event()?;
         let second = noise.slot();
-        items.push(Pair { first, second })?;
-    }
-    let start = Pair {
-        first: LockState::default(),
-        second: BufferState::default(),
-    };
-    agree::<LockedBuffer>(&rt, rt.alloc(), start, &items, "0 0 3190 6207")
+        Ok(Pair { first, second })
+    })?;
+    agree::<LockedBuffer>(
+        &rt,
+        rt.alloc(),
+        LockedState::default(),
+        &items,
+        "0 0 3190 6207",
+    )
 }

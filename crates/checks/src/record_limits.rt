@@ -1,4 +1,5 @@
 //! Each kind's records: at the limits, one beyond, and with a byte that no field fills.
+use crate::bytes::with_byte;
 use buffer::{BufferSummary, Slot};
 use counts::{CountSummary, FrameCount};
 use lock::{LockEvent, LockMap};
@@ -15,21 +16,10 @@ const SERVICE_LIMIT: u32 = 16_777_215;
 // A record with some bytes in front and zeros behind.
 fn record(front: &[u8]) -> [u8; 16] {
     let mut bytes = [0u8; 16];
-    for (i, b) in front.iter().enumerate() {
-        if i < 16 {
-            bytes[i] = *b;
-        }
+    for (place, byte) in bytes.iter_mut().zip(front) {
+        *place = *byte;
     }
     bytes
-}
-
-// The record with one byte changed.
-fn with(bytes: [u8; 16], place: usize, byte: u8) -> [u8; 16] {
-    let mut changed = bytes;
-    if place < 16 {
-        changed[place] = byte;
-    }
-    changed
 }
 
 #[test]
@@ -50,21 +40,21 @@ fn of_jobs(rt: HostRuntime) -> Result<(), Fail> {
     assert_eq!(rt; ServerSummary::write(job), most);
     assert_eq!(rt; ServerSummary::read(most), Ok(job));
     assert_eq!(rt;
-        ServerSummary::read(with(most, 5, 1)),
+        ServerSummary::read(with_byte(most, 5, 1)),
         Err(RecordFault::Limit(0))
     );
     assert_eq!(rt;
-        ServerSummary::read(with(most, 9, 1)),
+        ServerSummary::read(with_byte(most, 9, 1)),
         Err(RecordFault::Limit(6))
     );
-    let both = with(with(most, 5, 1), 9, 1);
+    let both = with_byte(with_byte(most, 5, 1), 9, 1);
     assert_eq!(rt; ServerSummary::read(both), Err(RecordFault::Limit(0)));
     assert_eq!(rt;
-        ServerSummary::read(with(both, 15, 1)),
+        ServerSummary::read(with_byte(both, 15, 1)),
         Err(RecordFault::Layout(15))
     );
     assert_eq!(rt;
-        ServerSummary::read(with(with(both, 15, 1), 10, 9)),
+        ServerSummary::read(with_byte(with_byte(both, 15, 1), 10, 9)),
         Err(RecordFault::Layout(10))
     );
     Ok(())
@@ -77,19 +67,19 @@ fn of_tandem_jobs(rt: HostRuntime) -> Result<(), Fail> {
     assert_eq!(rt; TandemSummary::write(job), some);
     assert_eq!(rt; TandemSummary::read(some), Ok(job));
     assert_eq!(rt;
-        TandemSummary::read(with(some, 5, 1)),
+        TandemSummary::read(with_byte(some, 5, 1)),
         Err(RecordFault::Limit(0))
     );
     assert_eq!(rt;
-        TandemSummary::read(with(some, 9, 1)),
+        TandemSummary::read(with_byte(some, 9, 1)),
         Err(RecordFault::Limit(6))
     );
     assert_eq!(rt;
-        TandemSummary::read(with(some, 13, 1)),
+        TandemSummary::read(with_byte(some, 13, 1)),
         Err(RecordFault::Limit(10))
     );
     assert_eq!(rt;
-        TandemSummary::read(with(with(some, 5, 1), 14, 1)),
+        TandemSummary::read(with_byte(with_byte(some, 5, 1), 14, 1)),
         Err(RecordFault::Layout(14))
     );
     Ok(())
@@ -102,7 +92,7 @@ fn of_slots(rt: HostRuntime) {
     assert_eq!(rt; BufferSummary::write(slot), some);
     assert_eq!(rt; BufferSummary::read(some), Ok(slot));
     assert_eq!(rt;
-        BufferSummary::read(with(some, 6, 71)),
+        BufferSummary::read(with_byte(some, 6, 71)),
         Err(RecordFault::Layout(6))
     );
 }
@@ -148,10 +138,10 @@ fn of_counted_jobs(rt: HostRuntime) -> Result<(), Fail> {
     };
     assert_eq!(rt; CountedTandem::write(item), some);
     assert_eq!(rt; CountedTandem::read(some), Ok(item));
-    let late = with(some, 15, 64);
+    let late = with_byte(some, 15, 64);
     assert_eq!(rt; CountedTandem::read(late), Err(RecordFault::Limit(14)));
     assert_eq!(rt;
-        CountedTandem::read(with(late, 5, 1)),
+        CountedTandem::read(with_byte(late, 5, 1)),
         Err(RecordFault::Limit(0))
     );
     Ok(())
@@ -167,11 +157,11 @@ fn of_locked_slots(rt: HostRuntime) -> Result<(), Fail> {
     assert_eq!(rt; LockedBuffer::write(item), some);
     assert_eq!(rt; LockedBuffer::read(some), Ok(item));
     assert_eq!(rt;
-        LockedBuffer::read(with(some, 6, 0)),
+        LockedBuffer::read(with_byte(some, 6, 0)),
         Err(RecordFault::Limit(6))
     );
     assert_eq!(rt;
-        LockedBuffer::read(with(with(some, 6, 0), 7, 1)),
+        LockedBuffer::read(with_byte(with_byte(some, 6, 0), 7, 1)),
         Err(RecordFault::Layout(7))
     );
     Ok(())

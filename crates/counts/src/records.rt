@@ -5,21 +5,22 @@ ghost use Rattle.counts.specs.FrameRecords.{frame_laws};
 
 use crate::frames::FrameCount;
 use crate::summaries::CountSummary;
-use crate::tallies::MODULUS;
-use byte_fields::{first_used, put_number, read_number};
-use station::{Letter, RecordFault, Recorded};
+use crate::tallies::LAST_COUNT;
+use byte_fields::{check_unused, put_number, read_number};
+use station::{Letter, RECORD_SIZE, RecordFault, Recorded, limited};
+use std::ops::Range;
 
-// The count in bytes 0 and 1; the others are 0.
-const UNUSED_PLACE: usize = 2;
+// Where the count stands; the bytes behind it are 0.
+const COUNT: Range<usize> = 0..2;
+
+const UNUSED: Range<usize> = 2..RECORD_SIZE;
 
 impl FrameCount {
     // The frame with a count that stands at a place in a record, or the fault there.
     pub fn of_field(count: u64, place: usize) -> Result<FrameCount, RecordFault>
         ensures { result ≡ placed_frame_count place count }
     {
-        if count >= u64::from(MODULUS) {
-            return Err(RecordFault::Limit(place));
-        }
+        let count = limited(count, u64::from(LAST_COUNT), place)?;
         Ok(FrameCount {
             count: count as u16,
         })
@@ -35,18 +36,16 @@ impl Recorded for CountSummary {
         Letter::C
     }
 
-    fn read(bytes: [u8; 16]) -> Result<FrameCount, RecordFault> {
-        if let Some(place) = first_used(&bytes[UNUSED_PLACE..16]) {
-            return Err(RecordFault::Layout(UNUSED_PLACE + place));
-        }
-        FrameCount::of_field(read_number(&bytes[0..UNUSED_PLACE]), 0)
+    fn read(bytes: [u8; RECORD_SIZE]) -> Result<FrameCount, RecordFault> {
+        check_unused(&bytes, UNUSED)?;
+        FrameCount::of_field(read_number(&bytes[COUNT]), COUNT.start)
     }
 
-    fn write(item: FrameCount) -> [u8; 16]
+    #[tactic(auto, unfolding(byte_fields::specs::Unused::zeros))]
+    fn write(item: FrameCount) -> [u8; RECORD_SIZE]
         ensures is { result ≡ frame_count_written item }
         ensures back { count_rules.is_item item → frame_count_read result ≡ Ok item }
     {
-        let count = u64::from(item.count);
-        put_number([0; 16], 0, UNUSED_PLACE, count)
+        put_number([0; RECORD_SIZE], COUNT, u64::from(item.count))
     }
 }

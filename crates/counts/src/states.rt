@@ -47,7 +47,8 @@ impl CountState {
     }
 }
 
-// No frame seen, and nothing tallied.
+// No frame seen, and nothing tallied. Written out: a pass starts so because the rules say it, and a derive would not be
+// held to that here.
 impl Default for CountState {
     ghost is_default = { λ state. state ≡ count_state None no_tallies };
 

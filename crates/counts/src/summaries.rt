@@ -26,16 +26,14 @@ impl CountSummary {
     pub fn numbers(self) -> Option<(u16, u16, u32, u32, u32)>
         ensures { result ≡ span_numbers self.span }
     {
-        match self.span {
-            None => None,
-            Some(
-                Span {
-                    first,
-                    last,
-                    tallies,
-                },
-            ) => Some((first, last, tallies.missing, tallies.repeats, tallies.late)),
-        }
+        self.span.map(|span| {
+            let Tallies {
+                missing,
+                repeats,
+                late,
+            } = span.tallies;
+            (span.first, span.last, missing, repeats, late)
+        })
     }
 }
 

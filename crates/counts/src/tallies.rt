@@ -4,6 +4,8 @@ ghost use Rattle.counts.specs.Tallies.{plus, between, no_tallies};
 // A count has 14 bits.
 pub(crate) const MODULUS: u16 = 16_384;
 
+pub(crate) const LAST_COUNT: u16 = MODULUS - 1;
+
 // The greatest difference that counts as a gap; a greater one is a frame that comes late.
 const WIDEST_GAP: u32 = 8_192;
 

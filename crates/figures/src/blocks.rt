@@ -1,55 +1,45 @@
-use block::{Block, check_of, read_block, record_at, write_items};
-use byte_fields::write_number;
+use block::{BLOCK_SIZE, Block, check_of, read_block, record_at, write_items};
+use byte_fields::put_number;
 use counts::{CountSummary, FrameCount};
 use station::{Recorded, Refusal};
 use std::io;
 
 // The block of one frame count.
-fn written(count: u16) -> Result<[u8; 512], Refusal> {
-    let mut block = [0u8; 512];
+fn written(count: u16) -> Result<[u8; BLOCK_SIZE], Refusal> {
+    let mut block = [0u8; BLOCK_SIZE];
     let frames = [FrameCount::new(count)?];
-    match write_items::<CountSummary>(&frames, &mut block) {
-        Ok(()) => Ok(block),
-        Err(_) => Err(Refusal::Layout),
-    }
-}
-
-fn changed(block: [u8; 512], place: usize) -> [u8; 512] {
-    let mut bytes = block;
-    if place < 512 {
-        bytes[place] = 1;
-    }
-    bytes
+    write_items::<CountSummary>(&frames, &mut block)?;
+    Ok(block)
 }
 
 // The block with the check that its bytes ask for.
-fn mended(block: [u8; 512]) -> [u8; 512] {
-    let mut bytes = block;
-    let check = check_of(&block);
-    write_number(u64::from(check), &mut bytes[508..512]);
-    bytes
+fn mended(block: [u8; BLOCK_SIZE]) -> [u8; BLOCK_SIZE] {
+    put_number(block, 508..BLOCK_SIZE, u64::from(check_of(&block)))
 }
 
 // One block of frame counts, written and read, and then damaged in three ways.
 pub fn counts(rt: &HostRuntime) -> anyhow::Result<()> {
     let block = written(1)?;
-    lines(rt, block)?;
-    Ok(())
-}
-
-fn lines(rt: &HostRuntime, block: [u8; 512]) -> io::Result<()> {
     let check = check_of(&block);
     println!(rt; "  the count 1: check {check}")?;
     show(rt, "as written", &block)?;
     show(rt, "one byte short", &block[0..511])?;
-    let damaged = changed(block, 14);
+    let mut damaged = block;
+    damaged[14] = 1;
     show(rt, "byte 14 changed", &damaged)?;
-    show(rt, "and the check mended", &mended(damaged))
+    show(rt, "and the check mended", &mended(damaged))?;
+    Ok(())
 }
 
-fn fault(rt: &HostRuntime, label: &str, what: &str, number: u8, place: usize) -> io::Result<()> {
-    print!(rt; "  {label}: {what} fault ")?;
-    println!(rt; "{number} at {place}")
+fn fault(
+    rt: &HostRuntime,
+    label: &str,
+    what: &str,
+    refusal: Refusal,
+    place: usize,
+) -> io::Result<()> {
+    let number = refusal.number();
+    println!(rt; "  {label}: {what} fault {number} at {place}")
 }
 
 // What some bytes read as.
@@ -60,7 +50,7 @@ fn show(rt: &HostRuntime, label: &str, bytes: &[u8]) -> io::Result<()> {
             let length = text.len();
             println!(rt; "  {label}: a note of {length} bytes")
         }
-        Err(why) => fault(rt, label, "block", why.number(), why.place()),
+        Err(why) => fault(rt, label, "block", Refusal::from(why), why.place()),
     }
 }
 
@@ -74,6 +64,6 @@ fn show_first(rt: &HostRuntime, label: &str, records: &[u8]) -> io::Result<()> {
             let count = frame.count();
             println!(rt; "  {label}: the count {count}")
         }
-        Err(why) => fault(rt, label, "record", why.number(), why.place()),
+        Err(why) => fault(rt, label, "record", Refusal::from(why), why.place()),
     }
 }

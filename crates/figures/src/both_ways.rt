@@ -1,21 +1,13 @@
 use buffer::{BufferState, BufferSummary, Slot};
 use counts::{CountState, CountSummary, FrameCount};
 use lock::{LockEvent, LockMap, LockState};
-use pairs::{CountedJob, CountedTandem, LockedBuffer, LockedSlot};
+use pairs::{CountedState, CountedTandem, LockedBuffer, LockedState};
 use server::{Job, ServerState, ServerSummary};
-use station::{Pair, Refusal, Station};
-use std::alloc::Global;
+use station::{Pair, Recorded, Refusal, Station};
+use std::alloc::{AllocError, Global};
 use std::fmt::Display;
 use tandem::{TandemJob, TandemState, TandemSummary};
 use traces::{Entry, replay, summarize};
-
-fn entries<T: Copy>(heap: Global, items: &[T]) -> anyhow::Result<Vec<Entry<T>>> {
-    let mut trace = Vec::new(heap);
-    for item in items {
-        trace.push(Entry::Item(*item))?;
-    }
-    Ok(trace)
-}
 
 // The effect of the join of a trace's two halves' summaries.
 fn joined<K: Station>(trace: &[Entry<K::Item>], start: K::State) -> K::State {
@@ -25,29 +17,18 @@ fn joined<K: Station>(trace: &[Entry<K::Item>], start: K::State) -> K::State {
     front.join(back).effect(start)
 }
 
-fn line<S: Display + Drop>(
-    rt: &HostRuntime,
-    kind: char,
-    way: &str,
-    state: S,
-) -> anyhow::Result<()> {
-    println!(rt; "{kind} {way} {state}")?;
-    Ok(())
-}
-
 // A trace both ways.
-fn show<K: Station>(
-    rt: &HostRuntime,
-    kind: char,
-    start: K::State,
-    items: &[K::Item],
-) -> anyhow::Result<()>
+fn show<K: Recorded>(rt: &HostRuntime, start: K::State, items: &[K::Item]) -> anyhow::Result<()>
 where
     K::State: Display + Drop,
 {
-    let trace = entries(rt.alloc(), items)?;
-    line(rt, kind, "replay", replay::<K>(start, items))?;
-    line(rt, kind, "joined", joined::<K>(&trace, start))
+    let kind = K::letter();
+    let trace: Vec<Entry<K::Item>> = items.iter().copied().map(Some).collect(rt.alloc())?;
+    let replayed = replay::<K>(start, items);
+    println!(rt; "{kind} replay {replayed}")?;
+    let joined = joined::<K>(&trace, start);
+    println!(rt; "{kind} joined {joined}")?;
+    Ok(())
 }
 
 // Times that reach the end of the clock.
@@ -100,58 +81,48 @@ fn frames() -> Result<[FrameCount; 5], Refusal> {
     ])
 }
 
+// Each of some items with another, as far as there are both.
+fn beside<A: Copy, B: Copy>(
+    heap: Global,
+    firsts: &[A],
+    seconds: &[B],
+) -> Result<Vec<Pair<A, B>>, AllocError> {
+    firsts
+        .iter()
+        .copied()
+        .zip(seconds.iter().copied())
+        .map(|(first, second)| Pair { first, second })
+        .collect(heap)
+}
+
 pub fn server(rt: &HostRuntime) -> anyhow::Result<()> {
-    show::<ServerSummary>(rt, 'F', ServerState::new(7)?, &jobs()?)
+    show::<ServerSummary>(rt, ServerState::new(7)?, &jobs()?)
 }
 
 pub fn tandem(rt: &HostRuntime) -> anyhow::Result<()> {
-    show::<TandemSummary>(rt, 'T', TandemState::new(2, 9)?, &tandem_jobs()?)
+    show::<TandemSummary>(rt, TandemState::new(2, 9)?, &tandem_jobs()?)
 }
 
 // From tallies that pass 2^32.
 pub fn buffered(rt: &HostRuntime) -> anyhow::Result<()> {
     let start = BufferState::new(3, 4_294_967_295, 4_294_967_290);
-    show::<BufferSummary>(rt, 'B', start, &slots())
+    show::<BufferSummary>(rt, start, &slots())
 }
 
 pub fn locked(rt: &HostRuntime) -> anyhow::Result<()> {
-    show::<LockMap>(rt, 'S', LockState::default(), &events()?)
+    show::<LockMap>(rt, LockState::default(), &events()?)
 }
 
 pub fn counted(rt: &HostRuntime) -> anyhow::Result<()> {
-    show::<CountSummary>(rt, 'C', CountState::default(), &frames()?)
-}
-
-// Each of the jobs with a frame's count.
-fn counted_jobs() -> Result<[CountedJob; 4], Refusal> {
-    let [a, b, c, d, _] = frames()?;
-    let [p, q, r, s] = tandem_jobs()?;
-    Ok([beside(a, p), beside(b, q), beside(c, r), beside(d, s)])
+    show::<CountSummary>(rt, CountState::default(), &frames()?)
 }
 
 pub fn counted_tandem(rt: &HostRuntime) -> anyhow::Result<()> {
-    let start = beside(CountState::default(), TandemState::default());
-    show::<CountedTandem>(rt, 'P', start, &counted_jobs()?)
-}
-
-// Each of the slots with an event.
-fn locked_slots() -> Result<[LockedSlot; 5], Refusal> {
-    let [a, b, c, d, e] = events()?;
-    let [p, q, r, s, t] = slots();
-    Ok([
-        beside(a, p),
-        beside(b, q),
-        beside(c, r),
-        beside(d, s),
-        beside(e, t),
-    ])
+    let jobs = beside(rt.alloc(), &frames()?, &tandem_jobs()?)?;
+    show::<CountedTandem>(rt, CountedState::default(), &jobs)
 }
 
 pub fn locked_buffer(rt: &HostRuntime) -> anyhow::Result<()> {
-    let start = beside(LockState::default(), BufferState::default());
-    show::<LockedBuffer>(rt, 'Q', start, &locked_slots()?)
-}
-
-fn beside<A, B>(first: A, second: B) -> Pair<A, B> {
-    Pair { first, second }
+    let slots = beside(rt.alloc(), &events()?, &slots())?;
+    show::<LockedBuffer>(rt, LockedState::default(), &slots)
 }

@@ -7,20 +7,15 @@ use std::io;
 use tandem::{TandemJob, TandemState, TandemSummary};
 use traces::{gather, prefix, replay, spread};
 
-// The states behind each of three jobs from a start, and the summary of all three.
-fn server_states(
-    jobs: [Job; 3],
-    start: ServerState,
-) -> Result<([ServerState; 3], ServerSummary), Refusal> {
-    let mut fronts = [
-        ServerSummary::of_item(jobs[0]),
-        ServerSummary::of_item(jobs[1]),
-        ServerSummary::of_item(jobs[2]),
-    ];
-    let sum = gather(&fronts);
-    prefix(&mut fronts);
-    let mut states = [start; 3];
-    spread(&fronts, start, &mut states)?;
+// From the summaries of some items: the state behind each item, from a start, and the summary of all of them.
+fn states_along<K: Station, const N: usize>(
+    mut summaries: [K; N],
+    start: K::State,
+) -> Result<([K::State; N], K), Refusal> {
+    let sum = gather(&summaries);
+    prefix(&mut summaries);
+    let mut states = [start; N];
+    spread(&summaries, start, &mut states)?;
     Ok((states, sum))
 }
 
@@ -38,7 +33,8 @@ fn server_lines(rt: &HostRuntime, states: [ServerState; 3], sum: ServerSummary) 
 pub fn server(rt: &HostRuntime) -> anyhow::Result<()> {
     println!(rt; "F one server")?;
     let jobs = server_jobs()?;
-    let (states, sum) = server_states(jobs, ServerState::default())?;
+    let summaries = jobs.map(ServerSummary::of_item);
+    let (states, sum) = states_along(summaries, ServerState::default())?;
     server_lines(rt, states, sum)?;
     let later = replay::<ServerSummary>(ServerState::new(100)?, &jobs);
     println!(rt; "  from 100: {later}")?;
@@ -54,33 +50,18 @@ fn last_tick(rt: &HostRuntime, start: u64) -> anyhow::Result<()> {
     Ok(())
 }
 
-fn tandem_states(
-    jobs: [TandemJob; 2],
-    start: TandemState,
-) -> Result<([TandemState; 2], TandemSummary), Refusal> {
-    let mut fronts = [
-        TandemSummary::of_item(jobs[0]),
-        TandemSummary::of_item(jobs[1]),
-    ];
-    let sum = gather(&fronts);
-    prefix(&mut fronts);
-    let mut states = [start; 2];
-    spread(&fronts, start, &mut states)?;
-    Ok((states, sum))
-}
-
 fn tandem_lines(rt: &HostRuntime, states: [TandemState; 2], sum: TandemSummary) -> io::Result<()> {
     let [first, second] = states;
     let (p, q, r, t, u) = sum.numbers();
     println!(rt; "  (0, 4, 6) (1, 4, 1) from 0 0: {first}, {second}")?;
-    print!(rt; "  summary p {p} q {q} r {r}")?;
-    println!(rt; " t {t} u {u}")
+    println!(rt; "  summary p {p} q {q} r {r} t {t} u {u}")
 }
 
 pub fn tandem(rt: &HostRuntime) -> anyhow::Result<()> {
     println!(rt; "T two servers in tandem")?;
     let jobs = [TandemJob::new(0, 4, 6)?, TandemJob::new(1, 4, 1)?];
-    let (states, sum) = tandem_states(jobs, TandemState::default())?;
+    let summaries = jobs.map(TandemSummary::of_item);
+    let (states, sum) = states_along(summaries, TandemState::default())?;
     tandem_lines(rt, states, sum)?;
     made(rt, 5, 5)?;
     made(rt, 5, 4)?;
@@ -99,20 +80,15 @@ fn made(rt: &HostRuntime, first: u64, second: u64) -> io::Result<()> {
 fn buffer_lines(rt: &HostRuntime, state: BufferState, sum: BufferSummary) -> io::Result<()> {
     let (queue, lost, served) = state.numbers();
     let (alpha, theta, g, k, m) = sum.numbers();
-    print!(rt; "  (5, 2, 4) (1, 3, 4) from 0: x {queue}")?;
-    println!(rt; " lost {lost} served {served}")?;
-    print!(rt; "  summary alpha {alpha} theta {theta}")?;
-    println!(rt; " g {g} k {k} m {m}")
+    println!(rt; "  (5, 2, 4) (1, 3, 4) from 0: x {queue} lost {lost} served {served}")?;
+    println!(rt; "  summary alpha {alpha} theta {theta} g {g} k {k} m {m}")
 }
 
 pub fn buffered(rt: &HostRuntime) -> io::Result<()> {
     println!(rt; "B slotted buffer")?;
     let slots = [Slot::new(5, 2, 4), Slot::new(1, 3, 4)];
     let state = replay::<BufferSummary>(BufferState::new(0, 0, 0), &slots);
-    let sum = gather(&[
-        BufferSummary::of_item(slots[0]),
-        BufferSummary::of_item(slots[1]),
-    ]);
+    let sum = gather(&slots.map(BufferSummary::of_item));
     buffer_lines(rt, state, sum)
 }
 
@@ -151,7 +127,6 @@ fn tallies(first: u16, second: u16) -> Result<(u32, u32, u32), Refusal> {
 
 fn counted_pair(rt: &HostRuntime, first: u16, second: u16) -> anyhow::Result<()> {
     let (missing, repeats, late) = tallies(first, second)?;
-    print!(rt; "  {first} then {second}: missing {missing}")?;
-    println!(rt; " repeats {repeats} late {late}")?;
+    println!(rt; "  {first} then {second}: missing {missing} repeats {repeats} late {late}")?;
     Ok(())
 }

@@ -1,6 +1,7 @@
 -- What a block brings to a run of one kind.
-use Rattle.std.specs.Prelude.{ℕ, zero, suc, ◌+◌, ◌/◌, cond, List, [], ◌∷◌, length, take, drop, Ok, Err, Result, ◌==◌}
+use Rattle.std.specs.Prelude.{ℕ, ◌+◌, ◌/◌, cond, List, [], ◌∷◌, length, Ok, Err, Result, ◌==◌}
 use Rattle.std.specs.Borrow.{Bor}
+use Rattle.std.specs.Simd.{first_chunks}
 use Rattle.station.specs.Letters.{letter_byte}
 use Rattle.station.specs.Records.{Records}
 use Rattle.station.specs.declared.records.RecordFault.{RecordFault}
@@ -17,13 +18,17 @@ read_before at (Err f) rest = Err (records_fault at f)
 read_before at (Ok i) (Err f) = Err f
 read_before at (Ok i) (Ok is) = Ok (i ∷ is)
 
--- the items of so many records, of which the first has a number
-abbrev pub read_from : {I : Type 0} → (List ℕ → Result I RecordFault) → ℕ → ℕ → List ℕ → Result (List I) RecordsFault
-read_from reading at zero bs = Ok []
-read_from reading at (suc n) bs = read_before at (reading (take 16 bs)) (read_from reading (at + 1) n (drop 16 bs))
+-- the items of some records, of which the first has a number
+abbrev pub read_from : {I : Type 0} → (List ℕ → Result I RecordFault) → ℕ → List (List ℕ) → Result (List I) RecordsFault
+read_from reading at [] = Ok []
+read_from reading at (one ∷ rest) = read_before at (reading one) (read_from reading (at + 1) rest)
+
+-- the records of some bytes
+abbrev pub records_of : List ℕ → List (List ℕ)
+records_of bs = first_chunks 16 (length bs / 16) bs
 
 abbrev pub record_items : {I : Type 0} → Records I → List ℕ → Result (List I) RecordsFault
-record_items r bs = read_from r.reading 0 (length bs / 16) bs
+record_items r bs = read_from r.reading 0 (records_of bs)
 
 -- The bytes of a block's records for a run of some length, none for a note, or the fault: the block's, or another kind.
 abbrev pub kind_records : {I : Type 0} → Records I → ℕ → Result Held BlockFault → Result (List ℕ) LoadFault

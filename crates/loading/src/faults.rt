@@ -1,7 +1,6 @@
 ghost use Rattle.std.specs.Prelude.{◌≡◌, Some, Ok, Err, MatchResult};
 ghost use Rattle.loading.specs.Faults.{fault_text, load_fault, load_report};
 ghost use Rattle.loading.specs.declared.faults.LoadCause.TheVariants as cause;
-ghost use Rattle.station.specs.Refusals.{number_of};
 
 use block::BlockFault;
 use station::{RecordFault, Refusal};
@@ -31,17 +30,17 @@ pub struct LoadFault {
     pub length: usize,
 }
 
-impl LoadFault {
-    // The number of the refusal, whichever layer it comes from.
-    pub fn number(self) -> u8
-        ensures { result ≡ number_of (load_report self).refusal }
-    {
-        match self.cause {
-            LoadCause::TrialOpen => Refusal::TrialOpen.number(),
-            LoadCause::NoRoom => Refusal::NoRoom.number(),
-            LoadCause::OtherKind => Refusal::OtherKind.number(),
-            LoadCause::Block(fault) => fault.number(),
-            LoadCause::Record(at) => at.fault.number(),
+// The refusal, whichever layer it comes from.
+impl From<LoadFault> for Refusal {
+    ghost from_gives = { λ fault refusal. refusal ≡ (load_report fault).refusal };
+
+    fn from(fault: LoadFault) -> Refusal {
+        match fault.cause {
+            LoadCause::TrialOpen => Refusal::TrialOpen,
+            LoadCause::NoRoom => Refusal::NoRoom,
+            LoadCause::OtherKind => Refusal::OtherKind,
+            LoadCause::Block(fault) => Refusal::from(fault),
+            LoadCause::Record(at) => Refusal::from(at.fault),
         }
     }
 }
@@ -51,7 +50,7 @@ impl fmt::Display for LoadFault {
     ghost output = { λ fault. Some (fault_text fault) };
 
     fn fmt<W: fmt::Write>(&self, f: &mut fmt::Formatter<W>) -> fmt::Result {
-        let number = self.number();
+        let number = Refusal::from(*self).number();
         match self.cause {
             LoadCause::Block(fault) => {
                 let place = fault.place();
@@ -81,10 +80,7 @@ pub struct Lower<F> {
 pub(crate) fn beside<T, F>(r: Result<T, F>, length: usize) -> Result<T, Lower<F>>
     ensures { MatchResult result (λ x. r ≡ Ok x) (λ lower. (r ≡ Err lower.fault) × (lower.length ≡ «length»)) }
 {
-    match r {
-        Ok(x) => Ok(x),
-        Err(fault) => Err(Lower { fault, length }),
-    }
+    r.map_err(|fault| Lower { fault, length })
 }
 
 impl From<Lower<BlockFault>> for LoadFault {

@@ -3,23 +3,16 @@ ghost use Rattle.block.specs.Reading.{read_of};
 ghost use Rattle.loading.specs.Loading.{block_records, checked, record_items, seen};
 
 use crate::faults::{LoadCause, LoadFault, Lower, RecordsFault, beside};
-use block::{Block, record_at};
-use station::Recorded;
-
-// The bytes of a record.
-const RECORD_SIZE: usize = 16;
+use block::Block;
+use station::{RECORD_SIZE, Recorded};
 
 // Whether all records are items of a kind, from the first on; the first that is none is a fault.
 fn check_records<K: Recorded>(records: &[u8]) -> Result<(), RecordsFault>
     ensures { result ≡ checked (record_items K.Recorded.records records.now) }
 {
-    for index in 0..records.len() / RECORD_SIZE {
-        let Some(bytes) = record_at(records, index) else {
-            return Ok(());
-        };
-        if let Err(fault) = K::read(bytes) {
-            return Err(RecordsFault { index, fault });
-        }
+    let (chunks, _) = records.as_chunks::<RECORD_SIZE>();
+    for (index, record) in chunks.iter().enumerate() {
+        K::read(*record).map_err(|fault| RecordsFault { index, fault })?;
     }
     Ok(())
 }
@@ -30,9 +23,9 @@ pub fn read_records<K: Recorded>(bytes: &[u8], length: usize) -> Result<&[u8], L
     ensures { seen result ≡ block_records K.Recorded.records «length» (read_of bytes.now) }
 {
     match beside(block::read_block(bytes), length)? {
-        Block::Note(_) => Ok(&bytes[0..0]),
+        Block::Note(_) => Ok(&[]),
         Block::Data { letter, records } => {
-            if letter.byte() != K::letter().byte() {
+            if letter != K::letter() {
                 return Err(LoadFault {
                     cause: LoadCause::OtherKind,
                     length,

@@ -1,19 +1,19 @@
 -- The laws of an event's record.
-use Rattle.std.specs.Prelude.{◌≡◌, ℕ, ◌<◌, Bool, true, false, cond, T, List, ◌++◌, None, Ok, refl}
+use Rattle.std.specs.Prelude.{◌≡◌, ℕ, List, None, Ok, refl}
 use Rattle.std.proofs.Common.{ap, subst, ◌∙◌, arith}
 use Rattle.std.specs.List.{between}
-use Rattle.std.proofs.lemmas.Bool.Decides.{nat_tests}
+use Rattle.std.proofs.lemmas.Float.{T_from_true}
 use Rattle.station.specs.Records.{IsRecord, RecordLaws}
 use Rattle.station.specs.declared.records.RecordFault.TheVariants.{Limit}
 use Rattle.station.proofs.RecordWays.{unless_used_lem}
-use Rattle.byte_fields.specs.Numbers.{digits, field}
+use Rattle.byte_fields.specs.Numbers.{field}
 use Rattle.byte_fields.specs.Unused.{zeros, first_used}
-use Rattle.byte_fields.proofs.NumberLaws.{digits_small, zeros_small, append_small, numeral_digits}
+use Rattle.byte_fields.proofs.NumberLaws.{digits_small, zeros_small, append_small}
 use Rattle.byte_fields.proofs.Layouts.{field_first, unused_last}
 use Rattle.byte_fields.proofs.Ways.{cond_then}
 use Rattle.lock.specs.Events.{is_letter, lock_event}
 use Rattle.lock.specs.Maps.{lock_rules}
-use Rattle.lock.specs.Records.{placed_event, event_read, event_written, event_records}
+use Rattle.lock.specs.Records.{placed_event, event_written, event_records}
 use Rattle.lock.specs.declared.events.LockEvent.{LockEvent}
 
 -- what a letter that makes an event is
@@ -21,28 +21,17 @@ pub record Placed (c : ℕ) (i : LockEvent) : Type 0 where
   pub counts : lock_rules.is_item (lock_event c)
   pub is : lock_event c ≡ i
 
-holds : (b : Bool) → b ≡ true → T b
-holds true p = tt
-holds false p = let z : ◌≡◌ {A = ℕ} 0 1 = cc in absurd (omega arith)
-
-chosen : {X : Type 0} (b : Bool) (x y : X) → T b → cond b x y ≡ x
-chosen true x y h = refl
-chosen false x y h = absurd h
-
--- a letter is one byte
-pub letter_small : (c : ℕ) → T (is_letter c) → c < 256
-letter_small c h = grind (arith, nat_tests)
-
 pub placed : (place c : ℕ) (i : LockEvent) → placed_event place c ≡ Ok i → Placed c i
 placed place c i p =
     let b = cond_then (is_letter c) (Ok (lock_event c)) (Limit place) i p in
     let e = b.1 in
-    record { counts = holds (is_letter c) b.0; is = cc }
+    record { counts = T_from_true (is_letter c) b.0; is = cc }
 
 whole : (bs : List ℕ) → IsRecord bs → first_used (between 1 16 bs) ≡ None → bs ≡ event_written (lock_event (field 0 1 bs))
 whole bs r unused =
-    field_first bs 0 1 r.small (omega arith) (omega (arith, r.whole))
-    ∙ ap (λ rest. digits 1 (field 0 1 bs) ++ rest) (unused_last bs 1 r.whole unused)
+    let letter = field_first bs 0 1 r.small (omega arith) (omega (arith, r.whole)) in
+    let rest = unused_last bs 1 r.whole unused in
+    cc
 
 pub event_laws : RecordLaws lock_rules.is_item event_records
 unfolding zeros
@@ -53,13 +42,5 @@ event_laws = record {
   read_written = λ bs i r p.
       let u = unless_used_lem 1 (first_used (between 1 16 bs)) (placed_event 0 (field 0 1 bs)) i p in
       whole bs r u.0 ∙ ap event_written (placed 0 (field 0 1 bs) i u.1).is;
-  written_record = λ i. record { whole = refl; small = append_small (digits 1 i.letter) (zeros 15) (digits_small 1 i.letter) (zeros_small 15) };
+  written_record = λ i. record { whole = refl; small = search (append_small, digits_small, zeros_small) };
 }
-
-pub made : (place c x : ℕ) → T (is_letter c) → x ≡ c → placed_event place x ≡ Ok (lock_event c)
-made place c x h p = ap (placed_event place) p ∙ chosen (is_letter c) _ _ h
-
--- an item's record reads back as the item
-pub event_back : (i : LockEvent) → lock_rules.is_item i → event_read (event_written i) ≡ Ok i
-unfolding zeros
-event_back i h = made 0 i.letter (field 0 1 (event_written i)) h (numeral_digits 1 i.letter (letter_small i.letter h))

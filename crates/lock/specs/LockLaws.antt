@@ -13,9 +13,9 @@ abbrev Row : List ℕ → ℕ → Type 0
 Row states m = AllByRecursion (λ s. s < 8) states × (m ≡ packed (λ d. slice_index states d))
 
 -- what relates each of the six to its fellow relates the two that a letter chooses
-by_letters : {A B : Type 0} (P : A → B → Type 0) (g b l s t o : A) (g' b' l' s' t' o' : B) → P g g' → P b b' → P l l' → P s s' → P t t' → P o o'
+by_letters : {A B : Type 0} (P : A → B → Type 0) {g b l s t o : A} {g' b' l' s' t' o' : B} → P g g' → P b b' → P l l' → P s s' → P t t' → P o o'
     → (c : ℕ) → P (by_letter g b l s t o c) (by_letter g' b' l' s' t' o' c)
-by_letters P g b l s t o g' b' l' s' t' o' pg pb pl ps pt po c = five (c == good_marker) (c == bad_marker) (c == carrier_lost) (c == stow) (c == track)
+by_letters P {g} {b} {l} {s} {t} {o} {g'} {b'} {l'} {s'} {t'} {o'} pg pb pl ps pt po c = five (c == good_marker) (c == bad_marker) (c == carrier_lost) (c == stow) (c == track)
   where
     five : (k1 k2 k3 k4 k5 : Bool) → P (cond k1 g (cond k2 b (cond k3 l (cond k4 s (cond k5 t o))))) (cond k1 g' (cond k2 b' (cond k3 l' (cond k4 s' (cond k5 t' o')))))
     five true k2 k3 k4 k5 = pg
@@ -27,7 +27,7 @@ by_letters P g b l s t o g' b' l' s' t' o' pg pb pl ps pt po c = five (c == good
 
 letter_row : (c : ℕ) → Row (next_states c) (letter_map c)
 letter_row c =
-    by_letters Row _ _ _ _ _ _ _ _ _ _ _ _
+    by_letters Row
     (search rules, refl) (search rules, refl) (search rules, refl) (search rules, refl) (search rules, refl) (search rules, refl) c
 
 small_at : (states : List ℕ) (d : ℕ) → AllByRecursion (λ s. s < 8) states → slice_index states d < 8

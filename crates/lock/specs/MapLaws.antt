@@ -1,6 +1,6 @@
 -- Maps of eight states, packed into bits and joined.
 use Rattle.std.specs.Prelude.{◌≡◌, ℕ, zero, suc, ◌+◌, ◌-◌, ◌*◌, ◌/◌, ◌%◌, ◌^◌, ◌<◌, ◌≤◌, refl}
-use Rattle.std.proofs.Common.{sym, ap, ◌∙◌, arith, pow-suc, add-one, shr-shr}
+use Rattle.std.proofs.Common.{sym, ap, ◌∙◌, arith, pow-suc, shr-shr}
 use Rattle.std.proofs.Math.Nat.{pow-le-pow_right}
 use Rattle.station.specs.Laws.{JoinLaws}
 use Rattle.lock.specs.Maps.{image, packed_from, packed, through, identity, lock_map, lock_joins}
@@ -37,9 +37,9 @@ image_packed f k (suc n) (suc i) small h =
 packed_same : (f g : ℕ → ℕ) (k n : ℕ) → ((j : ℕ) → j < k + n → f j ≡ g j) → packed_from f k n ≡ packed_from g k n
 packed_same f g k zero same = refl
 packed_same f g k (suc n) same =
-    let here : f k ≡ g k = same k (omega arith) in
-    let rest : packed_from f (suc k) n ≡ packed_from g (suc k) n = packed_same f g (suc k) n (λ j b. same j (omega arith)) in
-    ap (λ a. a + 8 * packed_from f (suc k) n) here ∙ ap (λ p. g k + 8 * p) rest
+    let here = same k (omega arith) in
+    let rest = packed_same f g (suc k) n (λ j b. same j (omega arith)) in
+    cc
 
 packed_below : (f : ℕ → ℕ) (k n : ℕ) → ((j : ℕ) → j < k + n → f j < 8) → packed_from f k n < 8 ^ n
 packed_below f k zero small = omega arith
@@ -57,29 +57,11 @@ packed_images m k (suc n) h =
     back : (a : ℕ) → a % 8 + 8 * (a / 8) ≡ a
     back a = omega arith
 
--- `compose` sets the digits from the highest down. Before each turn there is room for one more,
-pub compose_room : (x y i m : ℕ) → i < 8 → m ≡ packed_from (through x y) (8 - i) i → m < 2 ^ 21
-compose_room x y i m h is =
-    let grows : 8 ^ i ≤ 8 ^ 7 = (let h7 : i ≤ 7 = omega arith in pow-le-pow_right (omega arith) h7) in
-    omega (arith, packed_below (through x y) (8 - i) i (λ j _. image_small y (image x j)))
-
--- which goes below the others,
-pub compose_turn : (x y i m between end : ℕ) → i < 8 → between ≡ image x (7 - i) → end ≡ image y between
-    → m ≡ packed_from (through x y) (8 - i) i → m * 8 + end ≡ packed_from (through x y) (8 - (i + 1)) (i + 1)
-compose_turn x y i m between end h first second is =
-    let f : ℕ → ℕ = through x y in
-    let down : 8 - (i + 1) ≡ 7 - i = omega arith in
-    let up : suc (7 - i) ≡ 8 - i = omega arith in
-    let e : m ≡ packed_from f (suc (7 - i)) i = is ∙ ap (λ k. packed_from f k i) (sym up) in
-    swap m end ∙ ap (λ b. b + 8 * m) (second ∙ ap (image y) first) ∙ ap (λ p. f (7 - i) + 8 * p) e
-    ∙ sym (ap (λ k. packed_from f k (i + 1)) down ∙ ap (packed_from f (7 - i)) (add-one i))
-  where
-    swap : (a b : ℕ) → a * 8 + b ≡ b + 8 * a
-    swap a b = omega arith
-
--- and behind the last turn all eight are set.
-pub compose_all : (x y i m : ℕ) → i ≡ 8 → m ≡ packed_from (through x y) (8 - i) i → m ≡ packed (through x y)
-compose_all x y i m h is = is ∙ ap (λ n. packed_from (through x y) (8 - n) n) h
+-- `compose` sets the digits from the highest down: while one is left, there is room for it.
+pub compose_room : (x y state : ℕ) → 0 < state → packed_from (through x y) state (8 - state) < 2 ^ 21
+compose_room x y state h =
+    let grows : 8 ^ (8 - state) ≤ 8 ^ 7 = (let le : 8 - state ≤ 7 = omega arith in pow-le-pow_right (omega arith) le) in
+    omega (arith, packed_below (through x y) state (8 - state) (λ j _. image_small y (image x j)))
 
 -- the same of all eight states
 pub image_of : (f : ℕ → ℕ) (i : ℕ) → ((j : ℕ) → j < 8 → f j < 8) → i < 8 → image (packed f) i ≡ f i

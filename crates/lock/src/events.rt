@@ -5,6 +5,7 @@ ghost use Rattle.lock.specs.Maps.{lock_rules};
 use station::Refusal;
 
 // What the lock hears of: G a good marker, B a bad one, L the carrier lost, S stow, T track.
+// A letter and no enum, since the rules name events by their letters.
 #[derive(Clone, Copy, PartialEq, Eq, Debug)]
 pub struct LockEvent {
     letter: char,

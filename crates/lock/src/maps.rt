@@ -49,12 +49,13 @@ fn image_of(map: u32, state: u8) -> u8
 }
 
 // Each state goes through the earlier map and then the later. The digits are set from the highest down.
+#[tactic(auto, using(crate::specs::MapLaws::compose_room))]
 fn compose(earlier: u32, later: u32) -> u32
     ensures { result ≡ packed (through earlier later) }
 {
     let mut map = 0;
-    for i in 0..8 {
-        let between = image_of(earlier, 7 - i);
+    for state in (0..8).rev() {
+        let between = image_of(earlier, state);
         let end = image_of(later, between);
         map = map * 8 + u32::from(end);
     }
@@ -62,6 +63,7 @@ fn compose(earlier: u32, later: u32) -> u32
 }
 
 // The letter's map holds its row of next states.
+#[tactic(auto, using(crate::specs::LockLaws::letter_steps))]
 fn next_state(letter: char, state: u8) -> u8
     ensures is { state ≤ last_state → result ≡ next_state letter state }
     ensures small { result ≤ last_state }

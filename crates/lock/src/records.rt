@@ -5,21 +5,21 @@ ghost use Rattle.lock.specs.EventRecords.{event_laws};
 
 use crate::events::LockEvent;
 use crate::maps::LockMap;
-use byte_fields::{first_used, put_number, read_number};
-use station::{Letter, RecordFault, Recorded};
+use byte_fields::{check_unused, put_number, read_number};
+use station::{Letter, RECORD_SIZE, RecordFault, Recorded};
+use std::ops::Range;
 
-// The letter in byte 0; the others are 0.
-const UNUSED_PLACE: usize = 1;
+// Where the letter stands; the bytes behind it are 0.
+const LETTER: Range<usize> = 0..1;
+
+const UNUSED: Range<usize> = 1..RECORD_SIZE;
 
 impl LockEvent {
     // The event with a letter that stands at a place in a record, or the fault there.
     pub fn of_field(letter: u8, place: usize) -> Result<LockEvent, RecordFault>
         ensures { result ≡ placed_event place letter }
     {
-        match LockEvent::new(char::from(letter)) {
-            Ok(event) => Ok(event),
-            Err(_) => Err(RecordFault::Limit(place)),
-        }
+        LockEvent::new(char::from(letter)).map_err(|_| RecordFault::Limit(place))
     }
 }
 
@@ -32,19 +32,16 @@ impl Recorded for LockMap {
         Letter::S
     }
 
-    fn read(bytes: [u8; 16]) -> Result<LockEvent, RecordFault> {
-        if let Some(place) = first_used(&bytes[UNUSED_PLACE..16]) {
-            return Err(RecordFault::Layout(UNUSED_PLACE + place));
-        }
-        let letter = read_number(&bytes[0..UNUSED_PLACE]);
-        LockEvent::of_field(letter as u8, 0)
+    fn read(bytes: [u8; RECORD_SIZE]) -> Result<LockEvent, RecordFault> {
+        check_unused(&bytes, UNUSED)?;
+        LockEvent::of_field(read_number(&bytes[LETTER]) as u8, LETTER.start)
     }
 
-    fn write(item: LockEvent) -> [u8; 16]
+    #[tactic(auto, unfolding(byte_fields::specs::Unused::zeros))]
+    fn write(item: LockEvent) -> [u8; RECORD_SIZE]
         ensures is { result ≡ event_written item }
         ensures back { lock_rules.is_item item → event_read result ≡ Ok item }
     {
-        let letter = u64::from(item.letter());
-        put_number([0; 16], 0, UNUSED_PLACE, letter)
+        put_number([0; RECORD_SIZE], LETTER, u64::from(item.letter()))
     }
 }

@@ -6,6 +6,7 @@ use station::Refusal;
 use std::fmt;
 
 // 0 seek, 1 and 2 check, 3 lock, 4 to 6 flywheel, 7 stowed.
+// A number and no enum, since the rules number the states, and a state is an octal digit of a map.
 #[derive(Clone, Copy, PartialEq, Eq, Debug)]
 pub struct LockState {
     number: u8,
@@ -41,6 +42,7 @@ impl LockState {
 }
 
 // A lock begins by seeking.
+// Written out: a pass starts from 0 because the rules say so, and a derive would not be held to that here.
 impl Default for LockState {
     ghost is_default = { λ s. s ≡ lock_state 0 };
 

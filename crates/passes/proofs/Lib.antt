@@ -1,3 +1,4 @@
 pub mod Lines
 pub mod Along
 pub mod Told
+pub mod Behind

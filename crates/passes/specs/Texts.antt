@@ -20,6 +20,10 @@ head_text letter count = codes "PASS " ++ (letter ++ (codes " " ++ (decimal coun
 abbrev pub pass_text : {D : Type 0} → (D → List ℕ) → List ℕ → List D → List ℕ
 pass_text text_of letter ds = head_text letter (length ds) ++ (lines_from text_of 0 ds ++ codes "END\n")
 
+-- an input with no data block
+abbrev pub empty_text : List ℕ
+empty_text = codes "PASS - 0\nEND\n"
+
 -- a pass that breaks off
 abbrev pub break_text : PassFault → List ℕ
 break_text f = codes "FAULT " ++ (decimal f.index ++ (codes " " ++ (fault_text f.fault ++ codes "\n")))

@@ -15,8 +15,8 @@ pub fn states_along<K: Station>(
     ensures { Tells K.Summary.joins K.Station.rules run.now (λ t. (K.Station.rules.is_state start → IfOk result (λ states. states.items ≡ states_along K.Station.rules start t.entries))) }
 {
     let mut states = Vec::new(heap);
-    for position in 0..run.length() {
-        states.push(run.state(position + 1, start)?)?;
+    for count in 1..=run.length() {
+        states.push(run.state(count, start)?)?;
     }
     Ok(states)
 }

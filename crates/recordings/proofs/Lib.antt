@@ -1,3 +1,6 @@
+pub mod Parts
+pub mod Counts
+pub mod Cutting
+pub mod Passing
 pub mod Notes
 pub mod Loading
-pub mod Counts

@@ -1,36 +1,44 @@
 -- Blocks loaded into a run, one more at the end.
-use Rattle.std.proofs.Common.{◌≡◌, ℕ, ◌+◌, List, [], ◌∷◌, ◌++◌, length, Ok, Err, sym, refl, ap, subst, arith}
+use Rattle.std.proofs.Common.{◌≡◌, ℕ, ◌+◌, ◌-◌, ◌<◌, List, [], ◌∷◌, ◌++◌, length, IfSome, Ok, Err, Option, Result, sym, refl, ap, ◌∙◌, subst, arith}
 use Rattle.std.proofs.lemmas.List.{map_push, length_push}
 use Rattle.station.specs.Laws.{Joins, Rules}
 use Rattle.station.specs.Records.{Records}
-use Rattle.loading.specs.declared.faults.LoadFault.{LoadFault}
 use Rattle.run.specs.Calls.{Load, Loaded, NotLoaded}
 use Rattle.run.specs.Rules.{Terms, after}
 use Rattle.run.specs.Serving.{ServesBy}
 use Rattle.run.specs.Standing.{Met, Stands, terms_of}
 use Rattle.run.specs.declared.run.Run.{Run}
-use Rattle.recordings.specs.Opening.{pass_fault}
-use Rattle.recordings.specs.Loading.{loads_of, Taken, LoadedFrom}
+use Rattle.recordings.specs.declared.faults.PassFault.{PassFault}
+use Rattle.recordings.specs.declared.faults.PassError.{PassError}
+use Rattle.recordings.specs.declared.faults.PassError.TheVariants.{Fault}
+use Rattle.recordings.specs.Input.{blocks_of, GivesBlock}
+use Rattle.recordings.specs.Loading.{loads_of, Taken, Broken, LoadedTo, LoadedFrom, LoadedAll}
+use Rattle.recordings.proofs.Cutting.{ReadsBlocks, reads_none, reads_more, reads_all, blocks_left, split_left, if_some}
 
--- a loop that loads: some blocks are taken, and one is at hand, which has a number
-pub record Loading {S I D : Type 0} (j : Joins S) (k : Rules S I D) (given : List S) (w : Terms I) (first : ℕ) (begun : List ℕ) (index : ℕ) (hand : List ℕ) (run : Run S) : Type 0 where
+-- A loop that loads: some blocks are taken, and one is at hand. So many have been read with the first of them, and so many
+-- now; so much was known of the bytes behind the first of them, and so much is of those behind the one at hand.
+pub record Loading {S I D : Type 0} (j : Joins S) (k : Rules S I D) (given : List S) (w : Terms I) (first : ℕ) (begun : List ℕ) (read : ℕ) (hand : List ℕ) (known left : Option (List ℕ)) (run : Run S) : Type 0 where
   pub blocks : List (List ℕ)
   pub rest : List (List ℕ)
   pub taken : Taken j k w blocks
   pub stands : Stands j k given w (after j k w (loads_of blocks)) run
-  pub at : index ≡ first + length blocks
+  pub counted : read ≡ first + length blocks
   pub begins : blocks ++ (hand ∷ []) ≡ begun ∷ rest
+  pub behind : ReadsBlocks known left rest
 
 module _ {S I D : Type 0} {j : Joins S} {k : Rules S I D} {records : Records I} {given : List S} {number : ℕ} where
-  pub loading_starts : {run : Run S} (first : ℕ) (hand : List ℕ) → Met j k records given number [] run → Loading j k given (terms_of given number records) first hand first hand run
-  loading_starts first hand met = record { blocks = []; rest = []; taken = Taken.none; stands = met; at = omega arith; begins = refl }
+  pub loading_starts : {run : Run S} (first : ℕ) (hand : List ℕ) (known : Option (List ℕ)) → Met j k records given number [] run
+      → Loading j k given (terms_of given number records) first hand first hand known known run
+  loading_starts first hand known met =
+      record { blocks = []; rest = []; taken = Taken.none; stands = met; counted = omega arith; begins = refl; behind = reads_none known }
 
-  -- the block at hand is loaded
-  pub loading_turn : {first index n : ℕ} {begun hand : List ℕ} (next : List ℕ) {before run : Run S}
-      → Loading j k given (terms_of given number records) first begun index hand before
+  -- the block at hand is loaded, and the next is read
+  pub loading_turn : {first read then n : ℕ} {begun hand : List ℕ} {known left : Option (List ℕ)} (next : List ℕ) (after_next : Option (List ℕ)) {before run : Run S}
+      → then ≡ read + 1 → GivesBlock left after_next next → 0 < length next
+      → Loading j k given (terms_of given number records) first begun read hand known left before
       → ServesBy j k records (Load hand) before run (Loaded n)
-      → Loading j k given (terms_of given number records) first begun (index + 1) next run
-  loading_turn {n = n} {hand = hand} next {run = run} l serves =
+      → Loading j k given (terms_of given number records) first begun then next known after_next run
+  loading_turn {n = n} {hand = hand} next after_next {run = run} more gives some l serves =
       let w = terms_of given number records in
       let bs = l.blocks in
       let served = serves given number (loads_of bs) l.stands tt in
@@ -39,32 +47,61 @@ module _ {S I D : Type 0} {j : Joins S} {k : Rules S I D} {records : Records I} 
         rest = l.rest ++ (next ∷ []);
         taken = Taken.more bs hand n l.taken (sym served.answer);
         stands = subst (λ calls. Stands j k given w (after j k w calls) run) (sym (map_push Load bs hand)) served.met;
-        at = omega (arith, l.at, length_push bs hand);
+        counted = omega (arith, more, l.counted, length_push bs hand);
         begins = ap (λ xs. xs ++ (next ∷ [])) l.begins;
+        behind = reads_more _ _ after_next l.rest next l.behind gives some;
       }
 
   -- it is the last
-  pub loading_ends : {first index n : ℕ} {begun hand : List ℕ} {before run : Run S}
-      → Loading j k given (terms_of given number records) first begun index hand before
+  loaded_rest : {first read n : ℕ} {begun hand : List ℕ} {known left : Option (List ℕ)} {before run : Run S}
+      → (l : Loading j k given (terms_of given number records) first begun read hand known left before)
       → ServesBy j k records (Load hand) before run (Loaded n)
-      → LoadedFrom j k given (terms_of given number records) first begun run (Ok tt)
-  loading_ends {n = n} {hand = hand} {run = run} l serves =
+      → LoadedTo j k given (terms_of given number records) first run (Ok tt) (begun ∷ l.rest)
+  loaded_rest {n = n} {hand = hand} {run = run} l serves =
       let w = terms_of given number records in
       let bs = l.blocks in
-      let served = serves given number (loads_of bs) l.stands tt in (
-        l.rest,
-        subst (λ xs. Taken j k w xs × Stands j k given w (after j k w (loads_of xs)) run) l.begins (
-          Taken.more bs hand n l.taken (sym served.answer),
-          subst (λ calls. Stands j k given w (after j k w calls) run) (sym (map_push Load bs hand)) served.met,
-        ),
+      let served = serves given number (loads_of bs) l.stands tt in
+      subst (λ xs. Taken j k w xs × Stands j k given w (after j k w (loads_of xs)) run) l.begins (
+        Taken.more bs hand n l.taken (sym served.answer),
+        subst (λ calls. Stands j k given w (after j k w calls) run) (sym (map_push Load bs hand)) served.met,
       )
 
+  pub loading_ends : {first read n : ℕ} {begun hand : List ℕ} {known left : Option (List ℕ)} {before run : Run S}
+      → Loading j k given (terms_of given number records) first begun read hand known left before
+      → ServesBy j k records (Load hand) before run (Loaded n)
+      → LoadedFrom j k given (terms_of given number records) first begun run (Ok tt)
+  loading_ends l serves = (l.rest, loaded_rest l serves)
+
+  pub loading_ends_all : {first read n : ℕ} {begun hand : List ℕ} {known left : Option (List ℕ)} {before run : Run S} (nothing : List ℕ) (after_it : Option (List ℕ))
+      → GivesBlock left after_it nothing → length nothing ≡ 0
+      → Loading j k given (terms_of given number records) first begun read hand known left before
+      → ServesBy j k records (Load hand) before run (Loaded n)
+      → IfSome known (λ bytes. LoadedAll j k given (terms_of given number records) first begun (blocks_of bytes) run (Ok tt))
+  loading_ends_all {first = first} {begun = begun} {known = known} {left = left} {run = run} nothing after_it gives none l serves =
+      if_some known (λ bytes is. subst (λ rest. LoadedTo j k given (terms_of given number records) first run (Ok tt) (begun ∷ rest)) (sym is) (loaded_rest l serves))
+      (reads_all known left after_it l.rest nothing l.behind gives none)
+
   -- it is refused
-  pub loading_breaks : {first index : ℕ} {begun hand : List ℕ} {before run : Run S} (f : LoadFault)
-      → Loading j k given (terms_of given number records) first begun index hand before
-      → ServesBy j k records (Load hand) before run (NotLoaded f)
-      → LoadedFrom j k given (terms_of given number records) first begun run (Err (pass_fault index f))
-  loading_breaks {hand = hand} f l serves =
+  broken_at : {first read : ℕ} {begun hand : List ℕ} {known left : Option (List ℕ)} {before run : Run S} (f : PassFault)
+      → (l : Loading j k given (terms_of given number records) first begun read hand known left before)
+      → ServesBy j k records (Load hand) before run (NotLoaded f.fault) → f.index ≡ read - 1
+      → Broken j k (terms_of given number records) first f (begun ∷ l.rest)
+  broken_at {hand = hand} f l serves at =
       let bs = l.blocks in
       let served = serves given number (loads_of bs) l.stands tt in
-      (l.rest, record { front = bs; last = hand; are = sym l.begins; taken = l.taken; refused = sym served.answer; at = l.at })
+      record { front = bs; last = hand; are = sym l.begins; taken = l.taken; refused = sym served.answer; at = at ∙ ap (λ n. n - 1) l.counted }
+
+  pub loading_breaks : {first read : ℕ} {begun hand : List ℕ} {known left : Option (List ℕ)} {before run : Run S} (f : PassFault) (r : Result (Unit {0}) PassError)
+      → Loading j k given (terms_of given number records) first begun read hand known left before
+      → ServesBy j k records (Load hand) before run (NotLoaded f.fault) → f.index ≡ read - 1 → r ≡ Err (Fault f)
+      → LoadedFrom j k given (terms_of given number records) first begun run r
+  loading_breaks {first = first} {begun = begun} {run = run} f r l serves at passed =
+      subst (LoadedFrom j k given (terms_of given number records) first begun run) (sym passed) (l.rest, broken_at f l serves at)
+
+  pub loading_breaks_all : {first read : ℕ} {begun hand : List ℕ} {known left : Option (List ℕ)} {before run : Run S} (f : PassFault) (r : Result (Unit {0}) PassError)
+      → Loading j k given (terms_of given number records) first begun read hand known left before
+      → ServesBy j k records (Load hand) before run (NotLoaded f.fault) → f.index ≡ read - 1 → r ≡ Err (Fault f)
+      → IfSome known (λ bytes. LoadedAll j k given (terms_of given number records) first begun (blocks_of bytes) run r)
+  loading_breaks_all {first = first} {begun = begun} {known = known} {left = left} {run = run} f r l serves at passed =
+      if_some known (λ bytes is. subst (LoadedAll j k given (terms_of given number records) first begun (blocks_of bytes) run) (sym passed)
+      (l.rest, (blocks_left left, (split_left (blocks_of bytes) l.rest left is, broken_at f l serves at)))) l.behind

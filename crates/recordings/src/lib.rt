@@ -7,6 +7,6 @@ mod loads;
 mod opening;
 
 pub use blocks::Blocks;
-pub use faults::PassFault;
+pub use faults::{PassError, PassFault};
 pub use loads::load_all;
-pub use opening::{Opening, open_pass};
+pub use opening::open_pass;

@@ -2,40 +2,15 @@
 //! beside the plain replay of the same entries.
 #![tactic(auto)]
 
-mod edits;
 mod pass;
-mod showing;
-mod trials;
+mod rehearsal;
 
-use crate::pass::{Pass, planned};
+use crate::pass::planned;
+use crate::rehearsal::Rehearsal;
 use pairs::CountedTandem;
-use run::Run;
-use station::{Recorded, Summary};
-use std::fmt::Display;
-
-fn rehearse<K: Recorded>(
-    rt: &HostRuntime,
-    run: &mut Run<K>,
-    pass: &Pass<K::Item>,
-) -> anyhow::Result<()>
-where
-    K::State: Default + Display + Drop,
-{
-    edits::load::<K>(rt, run, pass)?;
-    trials::take_back::<K>(rt, run, pass)?;
-    trials::keep::<K>(rt, run, pass)?;
-    edits::shorten::<K>(rt, run, pass)?;
-    edits::lengthen::<K>(rt, run, pass)?;
-    Ok(())
-}
-
-fn walk(rt: &HostRuntime) -> anyhow::Result<()> {
-    let pass = planned()?;
-    let mut cells = [CountedTandem::empty(); 16];
-    let mut run = Run::open(&mut cells, 1);
-    rehearse::<CountedTandem>(rt, &mut run, &pass)
-}
+use station::Summary;
 
 fn main(rt: HostRuntime) -> anyhow::Result<()> {
-    walk(&rt)
+    let mut cells = [CountedTandem::empty(); 16];
+    Rehearsal::new(&rt, &mut cells, planned()?).walk()
 }

@@ -1,9 +1,8 @@
 -- The balance of counts, by one step and then by the list.
-use Rattle.std.proofs.Common.{◌≡◌, ℕ, suc, ◌+◌, ◌-◌, ◌%◌, ◌<◌, ◌≤◌, List, [], ◌∷◌, length, Some, sym, refl, ◌∙◌, arith}
+use Rattle.std.proofs.Common.{◌≡◌, ℕ, suc, ◌+◌, ◌-◌, ◌%◌, ◌<◌, ◌≤◌, List, [], ◌∷◌, length, Some, sym, refl, ◌∙◌, arith, None}
 use Rattle.std.specs.List.{AllByRecursion}
 use Rattle.std.proofs.lemmas.Bool.Decides.{nat_tests}
-use Rattle.traces.specs.declared.entries.Entry.{Entry}
-use Rattle.traces.specs.declared.entries.Entry.TheVariants.{Item, Withdrawn}
+use Rattle.traces.specs.Entries.{Entry}
 use Rattle.traces.specs.Traces.{EntryCounts, items_of, replayed, ran}
 use Rattle.counts.specs.Counts.{count_state, count_rules}
 use Rattle.counts.specs.Tallies.{no_tallies, plus, of_difference, between}
@@ -62,13 +61,13 @@ carried (i ∷ is) l t hl all room =
 
 items_count : (es : List (Entry FrameCount)) → AllByRecursion (EntryCounts count_rules) es → AllByRecursion count_rules.is_item (items_of es)
 items_count [] all = tt
-items_count (Item i ∷ es) all = (all.0, items_count es all.1)
-items_count (Withdrawn ∷ es) all = items_count es all.1
+items_count (Some i ∷ es) all = (all.0, items_count es all.1)
+items_count (None ∷ es) all = items_count es all.1
 
 items_fewer : (es : List (Entry FrameCount)) → length (items_of es) ≤ length es
 items_fewer [] = omega arith
-items_fewer (Item i ∷ es) = omega (arith, items_fewer es)
-items_fewer (Withdrawn ∷ es) = omega (arith, items_fewer es)
+items_fewer (Some i ∷ es) = omega (arith, items_fewer es)
+items_fewer (None ∷ es) = omega (arith, items_fewer es)
 
 -- the balance of the frames alone
 items_balance : (is : List FrameCount) (first : ℕ) → AllByRecursion count_rules.is_item is → length is ≤ 4096 → count_of_first is ≡ Some first

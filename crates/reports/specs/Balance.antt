@@ -1,7 +1,7 @@
 -- The balance of counts: where no frame comes late, the frames that came and those that are missing, less the repeats,
 -- lead from the first count to the last.
 use Rattle.std.specs.Prelude.{◌≡◌, ℕ, ◌+◌, ◌%◌, List, [], ◌∷◌, length, Some, None, Option}
-use Rattle.traces.specs.declared.entries.Entry.{Entry}
+use Rattle.traces.specs.Entries.{Entry}
 use Rattle.traces.specs.Traces.{items_of}
 use Rattle.counts.specs.Counts.{count_state}
 use Rattle.counts.specs.Tallies.{no_tallies}

@@ -6,8 +6,7 @@ use Rattle.std.proofs.lemmas.List.{get_or-set_same, get_or-set_other, get_or_pas
 use Rattle.std.proofs.lemmas.Bool.{cases_eq, cases_lt}
 use Rattle.station.specs.Laws.{Joins, JoinLaws, Rules, StationLaws, Agreement}
 use Rattle.traces.specs.Traces.{EntryCounts, summary_of}
-use Rattle.traces.specs.declared.entries.Entry.{Entry}
-use Rattle.traces.specs.declared.entries.Entry.TheVariants.{Item, Withdrawn}
+use Rattle.traces.specs.Entries.{Entry}
 use Rattle.traces.proofs.Pieces.{summary_counts}
 use Rattle.tree.specs.Answers.{places_of, with_leaf, with_leaves, without_leaves, with_trial, with_old}
 use Rattle.tree.specs.Capacity.{capacity}
@@ -25,8 +24,8 @@ same_places c = ap capacity c.size
 module _ {S I D : Type 0} {j : Joins S} {k : Rules S I D} (laws : JoinLaws j) (steps : StationLaws j k) (agree : Agreement j k) where
   leaf_counts : (es : List (Entry I)) (i : ℕ) → AllByRecursion (EntryCounts k) es → j.is_summary (leaf_of j k es i)
   leaf_counts es i all =
-      ⊎_elim (λ (l : i < length es). summary_counts laws steps agree (get_or es i Withdrawn) (All-get_or (EntryCounts k) es i Withdrawn l all))
-      (λ (o : length es ≤ i). subst (λ e. j.is_summary (summary_of j k e)) (sym (get_or_past es i Withdrawn o)) laws.empty_counts) (cases_lt i (length es))
+      ⊎_elim (λ (l : i < length es). summary_counts laws steps agree (get_or es i None) (All-get_or (EntryCounts k) es i None l all))
+      (λ (o : length es ≤ i). subst (λ e. j.is_summary (summary_of j k e)) (sym (get_or_past es i None o)) laws.empty_counts) (cases_lt i (length es))
 
   pub kept_counts : (m : ℕ) (o : Option (Trial I)) → TrialCounts k m o → j.is_summary (kept_of j k o)
   kept_counts m None h = laws.empty_counts
@@ -81,8 +80,8 @@ module _ {S I D : Type 0} {j : Joins S} {k : Rules S I D} (laws : JoinLaws j) (s
         → CellsOf j k (places_of before) given (trace (set t.entries p e) t.tried) after
     leaf_set e p s lt within put items item trials is =
         leaf_put (set t.entries p e) p s (omega arith) put (All-set (EntryCounts k) t.entries p e item items) trials
-        (ap (summary_of j k) (get_or-set_same t.entries p e Withdrawn lt) ∙ is)
-        (λ i ne. ap (summary_of j k) (get_or-set_other t.entries p i e Withdrawn ne))
+        (ap (summary_of j k) (get_or-set_same t.entries p e None lt) ∙ is)
+        (λ i ne. ap (summary_of j k) (get_or-set_other t.entries p i e None ne))
 
     -- one entry appended
     pub leaf_push : (e : Entry I) (s : S) → length t.entries < places_of before → Rejoined j (places_of before) before (with_leaf before (length t.entries) s) after
@@ -91,12 +90,12 @@ module _ {S I D : Type 0} {j : Joins S} {k : Rules S I D} (laws : JoinLaws j) (s
     leaf_push e s lt put items item trials is =
         let es = t.entries in
         leaf_put (es ++ (e ∷ [])) (length es) s lt put (All-push (EntryCounts k) es e items item) trials
-        (ap (summary_of j k) (get_or_push es e Withdrawn (length es) refl) ∙ is)
-        (λ i ne. ⊎_elim (λ (l : i < length es). ap (summary_of j k) (get_or_append_left es (e ∷ []) Withdrawn i l))
+        (ap (summary_of j k) (get_or_push es e None (length es) refl) ∙ is)
+        (λ i ne. ⊎_elim (λ (l : i < length es). ap (summary_of j k) (get_or_append_left es (e ∷ []) None i l))
         (λ (o : length es ≤ i).
         let long = length_push es e in
         let beyond : length es < i = omega (arith, ne) in
-        ap (summary_of j k) (get_or_past (es ++ (e ∷ [])) i Withdrawn (omega arith) ∙ sym (get_or_past es i Withdrawn o))) (cases_lt i (length es)))
+        ap (summary_of j k) (get_or_past (es ++ (e ∷ [])) i None (omega arith) ∙ sym (get_or_past es i None o))) (cases_lt i (length es)))
 
     -- leaves written one behind another, or emptied
     leaves_put : (es : List (Entry I)) (first : ℕ) (leaves : List S) → first + length leaves ≤ places_of before → Rejoined j (places_of before) before (with_leaves before first leaves) after
@@ -132,27 +131,27 @@ module _ {S I D : Type 0} {j : Joins S} {k : Rules S I D} (laws : JoinLaws j) (s
     pub leaves_push : (is : List I) (leaves : List S) → leaves ≡ map k.of_item is → length t.entries + length is ≤ places_of before
         → Rejoined j (places_of before) before (with_leaves before (length t.entries) leaves) after
         → AllByRecursion (EntryCounts k) t.entries → AllByRecursion k.is_item is → j.is_summary (kept_of j k t.tried)
-        → CellsOf j k (places_of before) given (trace (t.entries ++ map Item is) t.tried) after
+        → CellsOf j k (places_of before) given (trace (t.entries ++ map Some is) t.tried) after
     leaves_push is leaves are room put items new trials =
         let es = t.entries in
         let none = j.empty in
         let size : length leaves ≡ length is = ap length are ∙ length-map is k.of_item in
-        let more : length (map Item is) ≡ length is = length-map is Item in
-        let all : length (es ++ map Item is) ≡ length es + length is = length-append es (map Item is) ∙ ap (λ x. length es + x) more in
-        leaves_put (es ++ map Item is) (length es) leaves (omega arith) put
-        (All-append (EntryCounts k) es (map Item is) items (All-map (EntryCounts k) Item is new)) trials
-        (λ i l. ap (summary_of j k) (get_or_append_left es (map Item is) Withdrawn i l))
+        let more : length (map Some is) ≡ length is = length-map is Some in
+        let all : length (es ++ map Some is) ≡ length es + length is = length-append es (map Some is) ∙ ap (λ x. length es + x) more in
+        leaves_put (es ++ map Some is) (length es) leaves (omega arith) put
+        (All-append (EntryCounts k) es (map Some is) items (All-map (EntryCounts k) Some is new)) trials
+        (λ i l. ap (summary_of j k) (get_or_append_left es (map Some is) None i l))
         (λ i l.
         let at : length es + i - length es ≡ i = omega arith in
         let there : i < length is = omega arith in
-        ap (summary_of j k) (get_or-append_right es (map Item is) (length es) (length es + i) Withdrawn refl (omega arith) ∙ ap (λ x. get_or (map Item is) x Withdrawn) at)
+        ap (summary_of j k) (get_or-append_right es (map Some is) (length es) (length es + i) None refl (omega arith) ∙ ap (λ x. get_or (map Some is) x None) at)
         ∙ read_item is i there ∙ ap (λ l. get_or l i none) (sym are))
-        (λ i b. ap (summary_of j k) (get_or_past (es ++ map Item is) i Withdrawn (omega arith) ∙ sym (get_or_past es i Withdrawn (omega arith))))
+        (λ i b. ap (summary_of j k) (get_or_past (es ++ map Some is) i None (omega arith) ∙ sym (get_or_past es i None (omega arith))))
       where
-        read_item : (is : List I) (i : ℕ) → i < length is → summary_of j k (get_or (map Item is) i Withdrawn) ≡ get_or (map k.of_item is) i j.empty
+        read_item : (is : List I) (i : ℕ) → i < length is → summary_of j k (get_or (map Some is) i None) ≡ get_or (map k.of_item is) i j.empty
         read_item [] i lt = absurd (omega arith)
         read_item (x ∷ xs) i lt =
-            ap (summary_of j k) (get_or-map Item (x ∷ xs) i x Withdrawn lt) ∙ sym (get_or-map k.of_item (x ∷ xs) i x j.empty lt)
+            ap (summary_of j k) (get_or-map Some (x ∷ xs) i x None lt) ∙ sym (get_or-map k.of_item (x ∷ xs) i x j.empty lt)
 
     -- the last entries cut off
     pub leaves_cut : (n : ℕ) → n ≤ length t.entries → length t.entries ≤ places_of before
@@ -165,16 +164,16 @@ module _ {S I D : Type 0} {j : Joins S} {k : Rules S I D} (laws : JoinLaws j) (s
         let gone = length es - n in
         let size : length (replicate gone none) ≡ gone = length-replicate gone none in
         let long = length-take-le n es le in
-        let past : (i : ℕ) → n ≤ i → leaf_of j k (take n es) i ≡ none = λ i o. ap (summary_of j k) (get_or_past (take n es) i Withdrawn (omega arith)) in
+        let past : (i : ℕ) → n ≤ i → leaf_of j k (take n es) i ≡ none = λ i o. ap (summary_of j k) (get_or_past (take n es) i None (omega arith)) in
         leaves_put (take n es) n (replicate gone none) (omega arith) put (All-take (EntryCounts k) n es items) trials
-        (λ i l. ap (summary_of j k) (get_or-take n es i Withdrawn l))
+        (λ i l. ap (summary_of j k) (get_or-take n es i None l))
         (λ i l. past (n + i) (omega arith) ∙ sym (get_or-replicate gone i none none (omega arith)))
-        (λ i b. past i (omega arith) ∙ sym (ap (summary_of j k) (get_or_past es i Withdrawn (omega arith))))
+        (λ i b. past i (omega arith) ∙ sym (ap (summary_of j k) (get_or_past es i None (omega arith))))
 
     -- another entry tried
     pub leaf_tried : (e : Entry I) (p : ℕ) (s : S) → p < length t.entries → length t.entries ≤ places_of before → Rejoined j (places_of before) before (with_trial j before p s) after
         → AllByRecursion (EntryCounts k) t.entries → EntryCounts k e → summary_of j k e ≡ s
-        → CellsOf j k (places_of before) given (trace (set t.entries p e) (Some (record { place = p; old = get_or t.entries p Withdrawn }))) after
+        → CellsOf j k (places_of before) given (trace (set t.entries p e) (Some (record { place = p; old = get_or t.entries p None }))) after
     leaf_tried e p s lt within put items item is =
         let n = places_of before in
         let held = (capacity_room (length before)).held in
@@ -183,14 +182,14 @@ module _ {S I D : Type 0} {j : Joins S} {k : Rules S I D} (laws : JoinLaws j) (s
         let mid = set before 0 old in
         let size = length-set before 0 old in
         let es = t.entries in
-        rejoined (trace (set es p e) (Some (record { place = p; old = get_or es p Withdrawn }))) was put (All-set (EntryCounts k) es p e item items)
+        rejoined (trace (set es p e) (Some (record { place = p; old = get_or es p None }))) was put (All-set (EntryCounts k) es p e item items)
         (leaf_counts es p items)
         (λ h. get_or-set_other mid (n + p) 0 s none (λ e. omega arith) ∙ (get_or-set_same before 0 old none (omega arith) ∙ was.leaves p (omega arith)))
         (λ i h.
         ⊎_elim (λ (q : i ≡ p). subst (λ x. cell j (set mid (n + p) s) (n + x) ≡ leaf_of j k (set es p e) x) (sym q)
-        (get_or-set_same mid (n + p) s none (omega arith) ∙ sym (ap (summary_of j k) (get_or-set_same es p e Withdrawn lt) ∙ is)))
+        (get_or-set_same mid (n + p) s none (omega arith) ∙ sym (ap (summary_of j k) (get_or-set_same es p e None lt) ∙ is)))
         (λ (ne : i ≢ p). get_or-set_other mid (n + p) (n + i) s none (λ q. ne (omega arith)) ∙ (get_or-set_other before 0 (n + i) old none (λ q. omega arith)
-        ∙ (was.leaves i h ∙ sym (ap (summary_of j k) (get_or-set_other es p i e Withdrawn ne))))) (cases_eq i p))
+        ∙ (was.leaves i h ∙ sym (ap (summary_of j k) (get_or-set_other es p i e None ne))))) (cases_eq i p))
         (λ i h. get_or-set_other mid (n + p) i s none (λ q. elim h [ inl a ↦ omega (arith, a.0, a.1) | inr b ↦ omega arith ])
         ∙ get_or-set_other before 0 i old none (λ q. elim h [ inl a ↦ omega (arith, a.0, a.1) | inr b ↦ omega arith ]))
 
@@ -212,8 +211,8 @@ module _ {S I D : Type 0} {j : Joins S} {k : Rules S I D} (laws : JoinLaws j) (s
         (λ h. get_or-set_same mid 0 none none (omega arith))
         (λ i h. get_or-set_other mid 0 (n + i) none none (λ q. omega arith) ∙
         ⊎_elim (λ (q : i ≡ p). subst (λ x. cell j mid (n + x) ≡ leaf_of j k (set es p old) x) (sym q)
-        (get_or-set_same before (n + p) s none (omega arith) ∙ (is ∙ sym (ap (summary_of j k) (get_or-set_same es p old Withdrawn lt)))))
-        (λ (ne : i ≢ p). get_or-set_other before (n + p) (n + i) s none (λ q. ne (omega arith)) ∙ (was.leaves i h ∙ sym (ap (summary_of j k) (get_or-set_other es p i old Withdrawn ne)))) (cases_eq i p))
+        (get_or-set_same before (n + p) s none (omega arith) ∙ (is ∙ sym (ap (summary_of j k) (get_or-set_same es p old None lt)))))
+        (λ (ne : i ≢ p). get_or-set_other before (n + p) (n + i) s none (λ q. ne (omega arith)) ∙ (was.leaves i h ∙ sym (ap (summary_of j k) (get_or-set_other es p i old None ne)))) (cases_eq i p))
         (λ i h. get_or-set_other mid 0 i none none (λ q. elim h [ inl a ↦ omega (arith, a.0, a.1) | inr b ↦ omega arith ])
         ∙ get_or-set_other before (n + p) i s none (λ q. elim h [ inl a ↦ omega (arith, a.0, a.1) | inr b ↦ omega arith ]))
 

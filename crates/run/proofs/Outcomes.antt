@@ -1,15 +1,16 @@
 -- From what becomes of a call to what a run has met; and when a call is granted.
-use Rattle.std.proofs.Common.{◌≡◌, ℕ, Bool, true, false, cond, eqb, List, [], ◌∷◌, ◌++◌, is_some, Some, None, Option, sym, refl, ap, ◌∙◌, subst, Ok, Err, is_ok, Result}
-use Rattle.std.proofs.lemmas.Bool.{both_ways, cond-true, cond-false, eq-eqb, eqb-true}
+use Rattle.std.proofs.Common.{◌≡◌, ℕ, Bool, true, false, cond, eqb, ltb, ◌<◌, length, List, [], ◌∷◌, ◌++◌, is_some, Some, None, Option, sym, refl, ap, ◌∙◌, subst, Ok, Err, is_ok, Result, set}
+use Rattle.std.proofs.lemmas.Bool.{ltb-true, both_ways, cond-true, cond-false, eq-eqb, eqb-true}
 use Rattle.station.specs.Laws.{Joins, Rules}
 use Rattle.station.specs.Records.{Records}
 use Rattle.station.specs.declared.refusals.Refusal.{Refusal}
-use Rattle.station.specs.declared.refusals.Refusal.TheVariants.{NothingToSettle, NoSuchPosition}
-use Rattle.traces.specs.declared.entries.Entry.{Entry}
-use Rattle.run.specs.Calls.{Call, Answer, Refused}
-use Rattle.run.specs.Rules.{Trial, Trace, Terms, Outcome, Grant, Refuse, answer_of, trace_of, unless_tried, provided, settled, outcome, after_from, after, empty_trace}
-use Rattle.run.specs.Standing.{Stands, Met, terms_of, place_of, tried_by, IsSettledBy}
-use Rattle.run.specs.Serving.{Served}
+use Rattle.station.specs.declared.refusals.Refusal.TheVariants.{TrialOpen, NothingToSettle, NoSuchPosition}
+use Rattle.traces.specs.Entries.{Entry}
+use Rattle.traces.specs.Traces.{EntryCounts}
+use Rattle.run.specs.Calls.{Call, Answer, Done, Refused, answer_by, put_call}
+use Rattle.run.specs.Rules.{Trial, Trace, Terms, Outcome, Grant, Refuse, answer_of, trace_of, trace, edited_at, unless_tried, provided, settled, outcome, after_from, after, empty_trace}
+use Rattle.run.specs.Standing.{Stands, Met, terms_of, place_of, tried_by, IsSettledBy, unless_open, unless_uneditable}
+use Rattle.run.specs.Serving.{Served, CallCounts}
 use Rattle.run.specs.declared.run.Run.{Run}
 
 module _ {S I D : Type 0} where
@@ -48,9 +49,68 @@ module _ {S I D : Type 0} where
   pub gate_shut : (o : Option (Trial I)) (test : Bool) (a b : Answer S D) (x : Outcome S I D) → o ≡ None → test ≡ false → unless_tried o a (provided test b x) ≡ Refuse b
   gate_shut o test a b x idle failed = ap (λ v. unless_tried v a (provided test b x)) idle ∙ cond-false test x (Refuse b) failed
 
-pub not_tried : {I : Type 0} (o : Option (Trial I)) (trial : Option ℕ) → trial ≡ place_of o → is_some trial ≡ false → o ≡ None
-not_tried None trial e t = refl
-not_tried (Some p) trial e t = absurd (both_ways (is_some trial) t (ap is_some e))
+-- the same by what the first check of an edit answers
+pub gate_idle : {I : Type 0} (o : Option (Trial I)) (trial : Option ℕ) (r : Result (Unit {0}) Refusal) (u : Unit {0}) → trial ≡ place_of o → r ≡ unless_open trial → r ≡ Ok u → o ≡ None
+gate_idle None trial r u e s ok = refl
+gate_idle (Some p) trial r u e s ok = absurd (both_ways true (ap is_ok (sym ok ∙ s ∙ ap unless_open e)) refl)
+
+pub gate_none : (trial : Option ℕ) (r : Result (Unit {0}) Refusal) (u : Unit {0}) → r ≡ unless_open trial → r ≡ Ok u → is_some trial ≡ false
+gate_none None r u s ok = refl
+gate_none (Some p) r u s ok = absurd (both_ways true (ap is_ok (sym ok ∙ s)) refl)
+
+pub gate_some : (trial : Option ℕ) (r : Result (Unit {0}) Refusal) (e : Refusal) → r ≡ unless_open trial → r ≡ Err e → is_some trial ≡ true
+gate_some None r e s err = absurd cc
+gate_some (Some p) r e s err = refl
+
+gate_closed : {S I D : Type 0} (o : Option (Trial I)) (trial : Option ℕ) (r : Result (Unit {0}) Refusal) (e : Refusal) (x : Outcome S I D) → trial ≡ place_of o → r ≡ unless_open trial → r ≡ Err e
+    → unless_tried o (Refused TrialOpen) x ≡ Refuse (Refused e)
+gate_closed None trial r e x t s err = absurd (both_ways true (ap is_ok (sym (ap unless_open t) ∙ sym s ∙ err)) refl)
+gate_closed (Some p) trial r e x t s err = (let same = sym (s ∙ ap unless_open t) ∙ err in cc)
+
+-- an edit that its first check refuses
+pub served_open : {S I D X : Type 0} {j : Joins S} {k : Rules S I D} {records : Records I} {given : List S} {number : ℕ} {calls : List (Call I D)} {run : Run S}
+    (c : Call I D) (f : X → Answer S D) (x : Outcome S I D) (s : Result (Unit {0}) Refusal) (r : Result X Refusal) (e : Refusal)
+    → outcome j k (terms_of given number records) (after j k (terms_of given number records) calls) c ≡ unless_tried (after j k (terms_of given number records) calls).tried (Refused TrialOpen) x
+    → s ≡ unless_open run.trial → s ≡ Err e → r ≡ Err e → Met j k records given number calls run → Served j k records given number calls c run (answer_by f r)
+served_open {j} {k} {records} {given} {number} {calls} {run} c f x s r e is settled was same met =
+    let t = after j k (terms_of given number records) calls in
+    served_refused c (answer_by f r) (is ∙ gate_closed t.tried run.trial s e x met.trying settled was ∙ ap (λ q. Refuse (answer_by f q)) (sym same)) met
+
+-- the same by what the checks of an edit at a position answer
+pub record Editable {I : Type 0} (o : Option (Trial I)) (position size : ℕ) : Type 0 where
+  pub idle : o ≡ None
+  pub within : position < size
+
+pub editable : {I : Type 0} (o : Option (Trial I)) (trial : Option ℕ) (position size : ℕ) (r : Result (Unit {0}) Refusal) (u : Unit {0}) → trial ≡ place_of o
+    → r ≡ unless_uneditable trial position size → r ≡ Ok u → Editable o position size
+editable None trial position size r u e s ok = record { idle = refl; within = passed (ltb position size) refl (sym (s ∙ ap (λ v. unless_uneditable v position size) e) ∙ ok) }
+  where
+    passed : (b : Bool) → ltb position size ≡ b → ◌≡◌ {A = Result (Unit {0}) Refusal} (cond b (Ok tt) (Err NoSuchPosition)) (Ok u) → position < size
+    passed true h p = ltb-true position size h
+    passed false h p = absurd cc
+editable (Some p) trial position size r u e s ok = absurd (both_ways true (ap is_ok (sym ok ∙ s ∙ ap (λ v. unless_uneditable v position size) e)) refl)
+
+shut : {S I D : Type 0} (o : Option (Trial I)) (trial : Option ℕ) (position size : ℕ) (e : Refusal) (x : Outcome S I D) → trial ≡ place_of o → unless_uneditable trial position size ≡ Err e
+    → unless_tried o (Refused TrialOpen) (provided (ltb position size) (Refused NoSuchPosition) x) ≡ Refuse (Refused e)
+shut None trial position size e x t h = failed (ltb position size) (sym (ap (λ v. unless_uneditable v position size) t) ∙ h)
+  where
+    failed : (b : Bool) → ◌≡◌ {A = Result (Unit {0}) Refusal} (cond b (Ok tt) (Err NoSuchPosition)) (Err e) → provided b (Refused NoSuchPosition) x ≡ Refuse (Refused e)
+    failed true p = absurd cc
+    failed false p = let same : NoSuchPosition ≡ e = cc in ap (λ v. Refuse (Refused v)) same
+shut (Some p) trial position size e x t h =
+    let q : ◌≡◌ {A = Result (Unit {0}) Refusal} (Err TrialOpen) (Err e) = sym (ap (λ v. unless_uneditable v position size) t) ∙ h in
+    let same : TrialOpen ≡ e = cc in
+    ap (λ v. Refuse (Refused v)) same
+
+-- an edit at a position that these checks refuse
+pub served_uneditable : {S I D X : Type 0} {j : Joins S} {k : Rules S I D} {records : Records I} {given : List S} {number : ℕ} {calls : List (Call I D)} {run : Run S}
+    (c : Call I D) (f : X → Answer S D) (x : Outcome S I D) (position : ℕ) (s : Result (Unit {0}) Refusal) (r : Result X Refusal) (e : Refusal)
+    → outcome j k (terms_of given number records) (after j k (terms_of given number records) calls) c ≡ edited_at (after j k (terms_of given number records) calls) position x
+    → s ≡ unless_uneditable run.trial position run.length → s ≡ Err e → r ≡ Err e → Met j k records given number calls run → Served j k records given number calls c run (answer_by f r)
+served_uneditable {j} {k} {records} {given} {number} {calls} {run} c f x position s r e is checks was same met =
+    let t = after j k (terms_of given number records) calls in
+    served_refused c (answer_by f r)
+    (is ∙ shut t.tried run.trial position (length t.entries) e x met.trying (ap (unless_uneditable run.trial position) (sym met.counted) ∙ sym checks ∙ was) ∙ ap (λ q. Refuse (answer_by f q)) (sym same)) met
 
 -- an option by its test
 pub is_nothing : {X : Type 0} (o : Option X) → is_some o ≡ false → o ≡ None
@@ -106,3 +166,13 @@ pub settles : {S I D : Type 0} {o : Option (Trial I)} {number shown place : ℕ}
     → settled o number shown f ≡ f (record { place = place; old = s.old })
 settles {number} {shown} {place} f s =
     ap (λ v. settled v number shown f) s.tried ∙ cond-true (eqb shown number) (f (record { place = place; old = s.old })) (Refuse (Refused NothingToSettle)) (eq-eqb shown number s.same)
+
+-- an entry put at a position, whichever call it is
+pub put_outcome : {S I D : Type 0} (j : Joins S) (k : Rules S I D) (w : Terms I) (t : Trace I) (p : ℕ) (e : Entry I)
+    → outcome j k w t (put_call p e) ≡ edited_at t p (Grant Done (trace (set t.entries p e) t.tried))
+put_outcome j k w t p (Some i) = refl
+put_outcome j k w t p None = refl
+
+pub put_counts : {S I D : Type 0} (k : Rules S I D) (p : ℕ) (e : Entry I) → CallCounts k (put_call p e) → EntryCounts k e
+put_counts k p (Some i) h = h
+put_counts k p None h = tt

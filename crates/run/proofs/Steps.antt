@@ -9,8 +9,7 @@ use Rattle.station.specs.declared.refusals.Refusal.{Refusal}
 use Rattle.station.specs.declared.refusals.Refusal.TheVariants.{NoSuchPosition}
 use Rattle.traces.specs.Lists.{gathered}
 use Rattle.traces.specs.Traces.{EntryCounts, summary_of, piece_summary}
-use Rattle.traces.specs.declared.entries.Entry.{Entry}
-use Rattle.traces.specs.declared.entries.Entry.TheVariants.{Withdrawn}
+use Rattle.traces.specs.Entries.{Entry}
 use Rattle.tree.specs.Answers.{places_of, leaves_in, Stretches}
 use Rattle.tree.proofs.Capacities.{capacity_room}
 use Rattle.run.specs.Calls.{Refused, SummaryIs, answer_by}
@@ -89,8 +88,8 @@ module _ {S I D : Type 0} {j : Joins S} {k : Rules S I D} {given : List S} {numb
       ∙ (get_or-drop (n + from) cells i none
       ∙ (ap (λ x. get_or cells x none) at
       ∙ (cells_were.leaves (from + i) (omega arith)
-      ∙ sym (get_or-map (summary_of j k) (piece es from to) i Withdrawn none (omega arith)
-      ∙ ap (summary_of j k) (get_or-take size (drop from es) i Withdrawn lt ∙ get_or-drop from es i Withdrawn))))))
+      ∙ sym (get_or-map (summary_of j k) (piece es from to) i None none (omega arith)
+      ∙ ap (summary_of j k) (get_or-take size (drop from es) i None lt ∙ get_or-drop from es i None))))))
 
   -- what a stretch answers
   pub stretch_is : (from to : ℕ) (r : Result S Refusal) → to ≤ length t.entries → Stretches j run.cells.now from to r

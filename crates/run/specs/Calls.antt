@@ -1,6 +1,7 @@
 -- The calls of a run and their answers.
-use Rattle.std.specs.Prelude.{ℕ, List, Ok, Err, Result}
+use Rattle.std.specs.Prelude.{ℕ, List, Some, None, Ok, Err, Result}
 use Rattle.station.specs.declared.refusals.Refusal.{Refusal}
+use Rattle.traces.specs.Entries.{Entry}
 use Rattle.loading.specs.declared.faults.LoadFault.{LoadFault}
 use Rattle.run.specs.declared.tickets.Ticket.{Ticket}
 use Rattle.run.specs.declared.tickets.Unsettled.{Unsettled}
@@ -18,6 +19,11 @@ pub data Call (I D : Type 0) : Type 0 where
   AskLength : Call I D
   AskState : ℕ → D → Call I D
   AskStretch : ℕ → ℕ → Call I D
+
+-- an entry put at a position: a replacement, or a withdrawal
+abbrev pub put_call : {I D : Type 0} → ℕ → Entry I → Call I D
+put_call p (Some i) = Replace p i
+put_call p None = Withdraw p
 
 -- What a call answers: a position, the number of records loaded, nothing, a ticket by its number, a length, a state or a
 -- summary; or a refusal; or a load fault.

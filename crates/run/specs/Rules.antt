@@ -4,8 +4,7 @@ use Rattle.station.specs.Laws.{Joins, Rules}
 use Rattle.station.specs.Records.{Records}
 use Rattle.station.specs.declared.refusals.Refusal.TheVariants.{TrialOpen, NoRoom, NoSuchPosition, NothingToSettle}
 use Rattle.traces.specs.Traces.{ran, piece_summary}
-use Rattle.traces.specs.declared.entries.Entry.{Entry}
-use Rattle.traces.specs.declared.entries.Entry.TheVariants.{Item, Withdrawn}
+use Rattle.traces.specs.Entries.{Entry}
 use Rattle.block.specs.Reading.{read_of}
 use Rattle.loading.specs.Faults.{load_fault}
 use Rattle.loading.specs.Loading.{block_items}
@@ -70,7 +69,7 @@ abbrev pub appended_all : {S I D : Type 0} → ℕ → Trace I → Result (List 
 appended_all room t (Err f) = Refuse (NotLoaded f)
 appended_all room t (Ok is) =
     provided (nat_le (length t.entries + length is) room) (NotLoaded (load_fault cause.NoRoom (length t.entries)))
-    (Grant (Loaded (length is)) (trace (t.entries ++ map Item is) t.tried))
+    (Grant (Loaded (length is)) (trace (t.entries ++ map Some is) t.tried))
 
 -- the entries from one position up to another
 abbrev pub piece : {I : Type 0} → List (Entry I) → ℕ → ℕ → List (Entry I)
@@ -79,17 +78,17 @@ piece es from to = slice_range es from to
 abbrev pub outcome : {S I D : Type 0} → Joins S → Rules S I D → Terms I → Trace I → Call I D → Outcome S I D
 outcome j k w t (Append i) =
     unless_tried t.tried (Refused TrialOpen)
-    (provided (nat_lt (length t.entries) w.room) (Refused NoRoom) (Grant (AtPosition (length t.entries)) (trace (t.entries ++ (Item i ∷ [])) t.tried)))
+    (provided (nat_lt (length t.entries) w.room) (Refused NoRoom) (Grant (AtPosition (length t.entries)) (trace (t.entries ++ (Some i ∷ [])) t.tried)))
 outcome j k w t (Load bs) =
     unless_tried t.tried (NotLoaded (load_fault cause.TrialOpen (length t.entries)))
     (appended_all w.room t (block_items w.records (length t.entries) (read_of bs)))
-outcome j k w t (Replace p i) = edited_at t p (Grant Done (trace (slice_set t.entries p (Item i)) t.tried))
-outcome j k w t (Withdraw p) = edited_at t p (Grant Done (trace (slice_set t.entries p Withdrawn) t.tried))
+outcome j k w t (Replace p i) = edited_at t p (Grant Done (trace (slice_set t.entries p (Some i)) t.tried))
+outcome j k w t (Withdraw p) = edited_at t p (Grant Done (trace (slice_set t.entries p None) t.tried))
 outcome j k w t (Cut n) =
     unless_tried t.tried (Refused TrialOpen)
     (provided (nat_le n (length t.entries)) (Refused NoSuchPosition) (Grant Done (trace (take n t.entries) t.tried)))
 outcome j k w t (Try p i) =
-    edited_at t p (Grant (Granted w.number) (trace (slice_set t.entries p (Item i)) (Some (record { place = p; old = slice_index_or t.entries p Withdrawn }))))
+    edited_at t p (Grant (Granted w.number) (trace (slice_set t.entries p (Some i)) (Some (record { place = p; old = slice_index_or t.entries p None }))))
 outcome j k w t (Keep shown) = settled t.tried w.number shown (λ p. Grant Done (trace t.entries None))
 outcome j k w t (TakeBack shown) = settled t.tried w.number shown (λ p. Grant Done (trace (slice_set t.entries p.place p.old) None))
 outcome j k w t AskLength = Grant (LengthIs (length t.entries)) t

@@ -1,6 +1,6 @@
 -- What each call of a run promises: whatever the run has met before, the answer is the one that the rules of the trace
 -- give, and the run has then met this call too.
-use Rattle.std.specs.Prelude.{◌≡◌, ℕ, List, [], ◌∷◌, ◌++◌, Ok, Err, Result}
+use Rattle.std.specs.Prelude.{◌≡◌, ℕ, List, [], ◌∷◌, ◌++◌, Ok, Err, Result, OnErr}
 use Rattle.station.specs.Laws.{Joins, Rules}
 use Rattle.station.specs.Records.{Records}
 use Rattle.station.specs.declared.refusals.Refusal.{Refusal}
@@ -36,6 +36,11 @@ ServesBy {S} {I} {D} j k records c before end a =
 
 abbrev pub Serves : {S I D : Type 0} → Joins S → Rules S I D → Call I D → Run S → Run S → Answer S D → Type 0
 Serves {S} {I} {D} j k c before end a = (records : Records I) → ServesBy j k records c before end a
+
+-- What every call that may change a run keeps: all of it where the call is refused, and always the cells that it was given.
+pub record Keeps {S X E : Type 0} (before end : Run S) (r : Result X E) : Type 0 where
+  pub refused : OnErr r (end ≡ before)
+  pub same : end.cells.ghost_name ≡ before.cells.ghost_name
 
 -- A run that has met no call.
 abbrev pub Opens : {S I D : Type 0} → Joins S → Rules S I D → List S → ℕ → Run S → Type 0

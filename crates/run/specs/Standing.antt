@@ -1,11 +1,12 @@
 -- How a run and its cells stand for a trace.
-use Rattle.std.specs.Prelude.{◌≡◌, ℕ, ◌+◌, ◌*◌, ◌<◌, ◌≤◌, cond, List, length, Some, None, Option, ◌==◌, slice_index_or}
+use Rattle.std.specs.Prelude.{◌≡◌, ℕ, ◌+◌, ◌*◌, ◌<◌, ◌≤◌, cond, List, length, Some, None, Ok, Err, Option, Result, ◌==◌, nat_lt, slice_index_or}
 use Rattle.std.specs.List.{AllByRecursion}
 use Rattle.station.specs.Laws.{Joins, Rules}
 use Rattle.station.specs.Records.{Records}
+use Rattle.station.specs.declared.refusals.Refusal.{Refusal}
+use Rattle.station.specs.declared.refusals.Refusal.TheVariants.{TrialOpen, NoSuchPosition}
 use Rattle.traces.specs.Traces.{EntryCounts, summary_of}
-use Rattle.traces.specs.declared.entries.Entry.{Entry}
-use Rattle.traces.specs.declared.entries.Entry.TheVariants.{Withdrawn}
+use Rattle.traces.specs.Entries.{Entry}
 use Rattle.tree.specs.Answers.{places_of}
 use Rattle.tree.specs.Cells.{cell, Tree}
 use Rattle.run.specs.Calls.{Call}
@@ -14,7 +15,7 @@ use Rattle.run.specs.declared.run.Run.{Run}
 
 -- the summary of the entry at a place, empty for a withdrawn or unused one
 abbrev pub leaf_of : {S I D : Type 0} → Joins S → Rules S I D → List (Entry I) → ℕ → S
-leaf_of j k es i = summary_of j k (slice_index_or es i Withdrawn)
+leaf_of j k es i = summary_of j k (slice_index_or es i None)
 
 -- what cell 0 holds: the summary of the entry that a trial remembers, or the empty one
 abbrev pub kept_of : {S I D : Type 0} → Joins S → Rules S I D → Option (Trial I) → S
@@ -47,6 +48,16 @@ pub record Stands {S I D : Type 0} (j : Joins S) (k : Rules S I D) (given : List
   pub within : length t.entries ≤ w.room
   pub items : AllByRecursion (EntryCounts k) t.entries
   pub trials : TrialCounts k (length t.entries) t.tried
+
+-- the answer of an edit before all else: refused while a trial is open
+abbrev pub unless_open : Option ℕ → Result (Unit {0}) Refusal
+unless_open None = Ok tt
+unless_open (Some place) = Err TrialOpen
+
+-- the same, and then a position without an entry
+abbrev pub unless_uneditable : Option ℕ → ℕ → ℕ → Result (Unit {0}) Refusal
+unless_uneditable None position size = cond (nat_lt position size) (Ok tt) (Err NoSuchPosition)
+unless_uneditable (Some place) position size = Err TrialOpen
 
 -- the place that a run tries, where a ticket with this number settles the trial
 abbrev pub tried_by : {S : Type 0} → ℕ → Run S → Option ℕ

@@ -3,18 +3,17 @@ use Rattle.std.specs.Prelude.{◌≡◌, ℕ, ◌≤◌, List, ◌++◌, None, O
 use Rattle.std.proofs.Common.{ap, subst, ◌∙◌, arith}
 use Rattle.std.specs.List.{between}
 use Rattle.std.proofs.lemmas.Bool.{ltb-false}
-use Rattle.std.proofs.lemmas.Bool.Decides.{nat_tests}
 use Rattle.station.specs.Records.{IsRecord, RecordLaws}
 use Rattle.station.specs.declared.records.RecordFault.TheVariants.{Limit}
 use Rattle.station.proofs.RecordWays.{unless_used_lem}
 use Rattle.byte_fields.specs.Numbers.{digits, field}
 use Rattle.byte_fields.specs.Unused.{zeros, first_used}
-use Rattle.byte_fields.proofs.NumberLaws.{digits_small, zeros_small, append_small, numeral_digits}
+use Rattle.byte_fields.proofs.NumberLaws.{digits_small, zeros_small, append_small}
 use Rattle.byte_fields.proofs.Layouts.{field_first, unused_last}
 use Rattle.byte_fields.proofs.Ways.{cond_else}
 use Rattle.server.specs.Clock.{clock_end, service_limit}
 use Rattle.server.specs.Server.{job, server_rules}
-use Rattle.server.specs.Records.{placed_job, job_read, job_written, job_records}
+use Rattle.server.specs.Records.{placed_job, job_written, job_records}
 use Rattle.server.specs.declared.jobs.Job.{Job}
 
 -- what numbers that make a job are
@@ -52,13 +51,3 @@ job_laws = record {
     small = append_small (digits 6 i.arrival) (digits 4 i.service ++ zeros 6) (digits_small 6 i.arrival) (append_small (digits 4 i.service) (zeros 6) (digits_small 4 i.service) (zeros_small 6));
   };
 }
-
-made : (a s x y : ℕ) → a ≤ clock_end → s ≤ service_limit → x ≡ a → y ≡ s → placed_job x y ≡ Ok (job a s)
-made a s x y ha hs p q = ap (λ v. placed_job v y) p ∙ ap (placed_job a) q ∙ grind (arith, nat_tests)
-
--- an item's record reads back as the item
-pub job_back : (i : Job) → server_rules.is_item i → job_read (job_written i) ≡ Ok i
-unfolding zeros
-job_back i h =
-    made i.arrival i.service (field 0 6 (job_written i)) (field 6 10 (job_written i)) h.0 h.1
-    (numeral_digits 6 i.arrival (omega arith)) (numeral_digits 4 i.service (omega arith))

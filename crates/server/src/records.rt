@@ -6,25 +6,24 @@ ghost use Rattle.server.specs.JobRecords.{job_laws};
 use crate::clock::{CLOCK_END, SERVICE_LIMIT};
 use crate::jobs::Job;
 use crate::summaries::ServerSummary;
-use byte_fields::{first_used, put_number, read_number};
-use station::{Letter, RecordFault, Recorded};
+use byte_fields::{check_unused, put_number, read_number};
+use station::{Letter, RECORD_SIZE, RecordFault, Recorded, limited};
+use std::ops::Range;
 
-// Arrival in bytes 0 to 5, service in 6 to 9; the others are 0.
-const SERVICE_PLACE: usize = 6;
+// Where the fields stand; the bytes behind them are 0.
+const ARRIVAL: Range<usize> = 0..6;
 
-const UNUSED_PLACE: usize = 10;
+const SERVICE: Range<usize> = 6..10;
+
+const UNUSED: Range<usize> = 10..RECORD_SIZE;
 
 impl Job {
     // The job with two numbers, or the place in a record of the first that is over its limit.
     fn of_fields(arrival: u64, service: u64) -> Result<Job, RecordFault>
         ensures { result ≡ placed_job arrival service }
     {
-        if arrival > CLOCK_END {
-            return Err(RecordFault::Limit(0));
-        }
-        if service > u64::from(SERVICE_LIMIT) {
-            return Err(RecordFault::Limit(SERVICE_PLACE));
-        }
+        let arrival = limited(arrival, CLOCK_END, ARRIVAL.start)?;
+        let service = limited(service, u64::from(SERVICE_LIMIT), SERVICE.start)?;
         Ok(Job {
             arrival,
             service: service as u32,
@@ -41,22 +40,17 @@ impl Recorded for ServerSummary {
         Letter::F
     }
 
-    fn read(bytes: [u8; 16]) -> Result<Job, RecordFault> {
-        if let Some(place) = first_used(&bytes[UNUSED_PLACE..16]) {
-            return Err(RecordFault::Layout(UNUSED_PLACE + place));
-        }
-        Job::of_fields(
-            read_number(&bytes[0..SERVICE_PLACE]),
-            read_number(&bytes[SERVICE_PLACE..UNUSED_PLACE]),
-        )
+    fn read(bytes: [u8; RECORD_SIZE]) -> Result<Job, RecordFault> {
+        check_unused(&bytes, UNUSED)?;
+        Job::of_fields(read_number(&bytes[ARRIVAL]), read_number(&bytes[SERVICE]))
     }
 
-    fn write(item: Job) -> [u8; 16]
+    #[tactic(auto, unfolding(byte_fields::specs::Unused::zeros))]
+    fn write(item: Job) -> [u8; RECORD_SIZE]
         ensures is { result ≡ job_written item }
         ensures back { server_rules.is_item item → job_read result ≡ Ok item }
     {
-        let service = u64::from(item.service);
-        let bytes = put_number([0; 16], 0, SERVICE_PLACE, item.arrival);
-        put_number(bytes, SERVICE_PLACE, UNUSED_PLACE, service)
+        let bytes = put_number([0; RECORD_SIZE], ARRIVAL, item.arrival);
+        put_number(bytes, SERVICE, u64::from(item.service))
     }
 }

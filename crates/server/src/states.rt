@@ -29,6 +29,7 @@ impl ServerState {
     }
 }
 
+// Written out: a pass starts from zeros because the rules say so, and a derive would not be held to that here.
 impl Default for ServerState {
     ghost is_default = { λ state. state ≡ server_state 0 };
 

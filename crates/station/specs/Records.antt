@@ -1,5 +1,5 @@
 -- Records: items as 16 bytes.
-use Rattle.std.specs.Prelude.{◌≡◌, ℕ, ◌+◌, ◌<◌, List, length, Some, None, Ok, Err, Option, Result, slice_index}
+use Rattle.std.specs.Prelude.{◌≡◌, ℕ, ◌+◌, ◌<◌, cond, nat_lt, List, length, Some, None, Ok, Err, Option, Result, slice_index}
 use Rattle.station.specs.Faults.{Placed, placed}
 use Rattle.station.specs.declared.letters.Letter.{Letter}
 use Rattle.station.specs.declared.records.RecordFault.{RecordFault}
@@ -14,6 +14,10 @@ record_fault (fault.Limit place) = placed ItemLimit place
 abbrev pub unless_used : {I : Type 0} → ℕ → Option ℕ → Result I RecordFault → Result I RecordFault
 unless_used from None rest = rest
 unless_used from (Some used) rest = Err (fault.Layout (from + used))
+
+-- the number of a field that begins at a place, or its fault where it is over the limit
+abbrev pub within_limit : ℕ → ℕ → ℕ → Result ℕ RecordFault
+within_limit place limit n = cond (nat_lt limit n) (Err (fault.Limit place)) (Ok n)
 
 -- the letter of a kind, what its records read as, and the record of an item
 pub record Records (I : Type 0) : Type 0 where

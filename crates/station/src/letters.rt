@@ -1,48 +1,58 @@
-ghost use Rattle.std.specs.Prelude.{◌≡◌, Some};
-ghost use Rattle.station.specs.Letters.{letter_byte, letter_of, LetterIs};
+ghost use Rattle.std.specs.Prelude.{Some};
+ghost use Rattle.station.specs.Letters.{LetterRead, LetterWritten, letter_text};
+
+use std::fmt;
 
 // The letter of a kind, which stands for it in byte 0 of a block.
 #[derive(Clone, Copy, PartialEq, Eq, Debug)]
 pub enum Letter {
-    F,
-    T,
-    B,
-    S,
-    C,
-    P,
-    Q,
+    F = b'F' as isize,
+    T = b'T' as isize,
+    B = b'B' as isize,
+    S = b'S' as isize,
+    C = b'C' as isize,
+    P = b'P' as isize,
+    Q = b'Q' as isize,
 }
 
-impl Letter {
-    pub fn byte(self) -> u8
-        ensures is { result ≡ letter_byte self }
-        ensures back { letter_of result ≡ Some self }
-    {
-        match self {
-            Letter::F => b'F',
-            Letter::T => b'T',
-            Letter::B => b'B',
-            Letter::S => b'S',
-            Letter::C => b'C',
-            Letter::P => b'P',
-            Letter::Q => b'Q',
+// A byte that is no kind's letter.
+#[derive(Clone, Copy, PartialEq, Eq, Debug)]
+pub struct NoLetter {
+    pub byte: u8,
+}
+
+impl From<Letter> for u8 {
+    ghost from_gives = { LetterWritten };
+
+    fn from(letter: Letter) -> u8 {
+        letter as u8
+    }
+}
+
+impl TryFrom<u8> for Letter {
+    type Error = NoLetter;
+
+    ghost try_from_gives = { LetterRead };
+
+    fn try_from(byte: u8) -> Result<Letter, NoLetter> {
+        match byte {
+            b'F' => Ok(Letter::F),
+            b'T' => Ok(Letter::T),
+            b'B' => Ok(Letter::B),
+            b'S' => Ok(Letter::S),
+            b'C' => Ok(Letter::C),
+            b'P' => Ok(Letter::P),
+            b'Q' => Ok(Letter::Q),
+            _ => Err(NoLetter { byte }),
         }
     }
+}
 
-    // The letter with a byte, if one has it.
-    pub fn of_byte(byte: u8) -> Option<Letter>
-        ensures is { result ≡ letter_of byte }
-        ensures back { LetterIs byte result }
-    {
-        match byte {
-            b'F' => Some(Letter::F),
-            b'T' => Some(Letter::T),
-            b'B' => Some(Letter::B),
-            b'S' => Some(Letter::S),
-            b'C' => Some(Letter::C),
-            b'P' => Some(Letter::P),
-            b'Q' => Some(Letter::Q),
-            _ => None,
-        }
+impl fmt::Display for Letter {
+    ghost output = { λ letter. Some (letter_text letter) };
+
+    fn fmt<W: fmt::Write>(&self, f: &mut fmt::Formatter<W>) -> fmt::Result {
+        let letter = char::from(u8::from(*self));
+        write!(f, "{letter}")
     }
 }

@@ -10,9 +10,9 @@ mod refusals;
 mod summaries;
 
 pub use kinds::Station;
-pub use letters::Letter;
+pub use letters::{Letter, NoLetter};
 pub use paired_records::RecordedWith;
 pub use pairing::Pair;
-pub use records::{RecordFault, Recorded};
+pub use records::{RECORD_SIZE, RecordFault, Recorded, limited};
 pub use refusals::Refusal;
 pub use summaries::Summary;

@@ -7,7 +7,7 @@ ghost use Rattle.std.proofs.Common.{rules};
 use crate::kinds::Station;
 use crate::letters::Letter;
 use crate::pairing::Pair;
-use crate::records::{RecordFault, Recorded};
+use crate::records::{RECORD_SIZE, RecordFault, Recorded};
 
 // A kind whose records have room for the item of another kind, so that the two side by side have records too.
 pub trait RecordedWith<A: Station>: Station {
@@ -16,10 +16,10 @@ pub trait RecordedWith<A: Station>: Station {
     fn letter_with() -> Letter
         ensures { result ≡ together.letter };
 
-    fn read_with(bytes: [u8; 16]) -> Result<Pair<A::Item, Self::Item>, RecordFault>
+    fn read_with(bytes: [u8; RECORD_SIZE]) -> Result<Pair<A::Item, Self::Item>, RecordFault>
         ensures { result ≡ together.reading bytes };
 
-    fn write_with(item: Pair<A::Item, Self::Item>) -> [u8; 16]
+    fn write_with(item: Pair<A::Item, Self::Item>) -> [u8; RECORD_SIZE]
         ensures { result ≡ together.written item };
 
     ghost recording: { RecordLaws (pair_rules A.Station.rules Self.Station.rules).is_item together };
@@ -34,11 +34,11 @@ impl<A: Station, B: RecordedWith<A>> Recorded for Pair<A, B> {
         B::letter_with()
     }
 
-    fn read(bytes: [u8; 16]) -> Result<Pair<A::Item, B::Item>, RecordFault> {
+    fn read(bytes: [u8; RECORD_SIZE]) -> Result<Pair<A::Item, B::Item>, RecordFault> {
         B::read_with(bytes)
     }
 
-    fn write(item: Pair<A::Item, B::Item>) -> [u8; 16] {
+    fn write(item: Pair<A::Item, B::Item>) -> [u8; RECORD_SIZE] {
         B::write_with(item)
     }
 }

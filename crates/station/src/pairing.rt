@@ -7,7 +7,7 @@ use std::fmt;
 
 // Two things side by side: the items, the states or the summaries of two kinds. A pair has no limits but those of its
 // parts, so its fields are open.
-#[derive(Clone, Copy, PartialEq, Eq, Debug)]
+#[derive(Clone, Copy, PartialEq, Eq, Debug, Default)]
 pub struct Pair<A, B> {
     pub first: A,
     pub second: B,
@@ -65,17 +65,6 @@ impl<A: Station, B: Station> Station for Pair<A, B> {
         Pair {
             first: self.first.effect(state.first),
             second: self.second.effect(state.second),
-        }
-    }
-}
-
-impl<A: Default, B: Default> Default for Pair<A, B> {
-    ghost is_default = { λ p. A.Default.is_default p.first × B.Default.is_default p.second };
-
-    fn default() -> Pair<A, B> {
-        Pair {
-            first: A::default(),
-            second: B::default(),
         }
     }
 }

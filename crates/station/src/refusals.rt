@@ -7,17 +7,17 @@ use std::fmt;
 // Why a call was refused. A refused call has changed nothing.
 #[derive(Clone, Copy, PartialEq, Eq, Debug)]
 pub enum Refusal {
-    TrialOpen,
-    NoRoom,
-    NoSuchPosition,
-    NothingToSettle,
-    ItemLimit,
-    StateLimit,
-    BlockLength,
-    BlockCheck,
-    Layout,
-    OtherKind,
-    ShortMemory,
+    TrialOpen = 1,
+    NoRoom = 2,
+    NoSuchPosition = 3,
+    NothingToSettle = 4,
+    ItemLimit = 5,
+    StateLimit = 6,
+    BlockLength = 7,
+    BlockCheck = 8,
+    Layout = 9,
+    OtherKind = 10,
+    ShortMemory = 11,
 }
 
 impl Refusal {
@@ -25,19 +25,7 @@ impl Refusal {
     pub fn number(self) -> u8
         ensures { result ≡ number_of self }
     {
-        match self {
-            Refusal::TrialOpen => 1,
-            Refusal::NoRoom => 2,
-            Refusal::NoSuchPosition => 3,
-            Refusal::NothingToSettle => 4,
-            Refusal::ItemLimit => 5,
-            Refusal::StateLimit => 6,
-            Refusal::BlockLength => 7,
-            Refusal::BlockCheck => 8,
-            Refusal::Layout => 9,
-            Refusal::OtherKind => 10,
-            Refusal::ShortMemory => 11,
-        }
+        self as u8
     }
 }
 

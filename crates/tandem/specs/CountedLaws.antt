@@ -7,7 +7,7 @@ use Rattle.station.specs.Pairs.{pair, pair_rules}
 use Rattle.station.specs.declared.pairing.Pair.{Pair}
 use Rattle.station.specs.declared.records.RecordFault.{RecordFault}
 use Rattle.byte_fields.specs.Numbers.{digits, field}
-use Rattle.byte_fields.proofs.NumberLaws.{digits_small, append_small, numeral_digits}
+use Rattle.byte_fields.proofs.NumberLaws.{digits_small, append_small}
 use Rattle.byte_fields.proofs.Layouts.{field_first}
 use Rattle.counts.specs.Counts.{frame_count, count_rules}
 use Rattle.counts.specs.Records.{placed_frame_count}
@@ -69,18 +69,3 @@ counted_laws = record {
         (append_small (digits 4 p.second.second) (digits 2 p.first.count) (digits_small 4 p.second.second) (digits_small 2 p.first.count)));
   };
 }
-
-joined : (job : Result TandemJob RecordFault) (count : Result FrameCount RecordFault) (c : FrameCount) (j : TandemJob) → job ≡ Ok j → count ≡ Ok c → counted job count ≡ Ok (pair c j)
-joined job count c j p q = ap (λ x. counted x count) p ∙ ap (counted (Ok j)) q
-
--- an item's record reads back as the item
-pub counted_back : (p : Pair FrameCount TandemJob) → (pair_rules count_rules tandem_rules).is_item p → counted_read (counted_written p) ≡ Ok p
-counted_back p h =
-    let bs = counted_written p in
-    let i = p.second in
-    let hj = h.1 in
-    let hc = h.0 in
-    joined (placed_tandem_job (field 0 6 bs) (field 6 10 bs) (field 10 14 bs)) (placed_frame_count 14 (field 14 16 bs)) p.first p.second
-    (jobs.made i.arrival i.first i.second (field 0 6 bs) (field 6 10 bs) (field 10 14 bs) hj
-    (numeral_digits 6 i.arrival (omega arith)) (numeral_digits 4 i.first (omega arith)) (numeral_digits 4 i.second (omega arith)))
-    (frames.made 14 p.first.count (field 14 16 bs) hc (numeral_digits 2 p.first.count (omega arith)))

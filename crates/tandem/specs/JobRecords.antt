@@ -3,18 +3,17 @@ use Rattle.std.specs.Prelude.{◌≡◌, ℕ, List, ◌++◌, None, Ok, nat_lt, 
 use Rattle.std.proofs.Common.{ap, subst, ◌∙◌, arith}
 use Rattle.std.specs.List.{between}
 use Rattle.std.proofs.lemmas.Bool.{ltb-false}
-use Rattle.std.proofs.lemmas.Bool.Decides.{nat_tests}
 use Rattle.station.specs.Records.{IsRecord, RecordLaws}
 use Rattle.station.specs.declared.records.RecordFault.TheVariants.{Limit}
 use Rattle.station.proofs.RecordWays.{unless_used_lem}
 use Rattle.byte_fields.specs.Numbers.{digits, field}
 use Rattle.byte_fields.specs.Unused.{zeros, first_used}
-use Rattle.byte_fields.proofs.NumberLaws.{digits_small, zeros_small, append_small, numeral_digits}
+use Rattle.byte_fields.proofs.NumberLaws.{digits_small, zeros_small, append_small}
 use Rattle.byte_fields.proofs.Layouts.{field_first, unused_last}
 use Rattle.byte_fields.proofs.Ways.{cond_else}
 use Rattle.server.specs.Clock.{clock_end, service_limit}
 use Rattle.tandem.specs.Tandem.{tandem_job, tandem_rules}
-use Rattle.tandem.specs.Records.{placed_tandem_job, tandem_job_read, tandem_job_written, tandem_job_records}
+use Rattle.tandem.specs.Records.{placed_tandem_job, tandem_job_written, tandem_job_records}
 use Rattle.tandem.specs.declared.jobs.TandemJob.{TandemJob}
 
 -- what numbers that make a job are
@@ -56,17 +55,3 @@ tandem_job_laws = record {
         (append_small (digits 4 i.second) (zeros 2) (digits_small 4 i.second) (zeros_small 2)));
   };
 }
-
-pub made : (a s₁ s₂ x y z : ℕ) → tandem_rules.is_item (tandem_job a s₁ s₂) → x ≡ a → y ≡ s₁ → z ≡ s₂ → placed_tandem_job x y z ≡ Ok (tandem_job a s₁ s₂)
-made a s₁ s₂ x y z h p q r =
-    let ha = h.0 in
-    let h₁ = h.1 in
-    let h₂ = h.2 in
-    ap (λ v. placed_tandem_job v y z) p ∙ ap (λ v. placed_tandem_job a v z) q ∙ ap (placed_tandem_job a s₁) r ∙ grind (arith, nat_tests)
-
--- an item's record reads back as the item
-pub tandem_job_back : (i : TandemJob) → tandem_rules.is_item i → tandem_job_read (tandem_job_written i) ≡ Ok i
-unfolding zeros
-tandem_job_back i h =
-    made i.arrival i.first i.second (field 0 6 (tandem_job_written i)) (field 6 10 (tandem_job_written i)) (field 10 14 (tandem_job_written i)) h
-    (numeral_digits 6 i.arrival (omega arith)) (numeral_digits 4 i.first (omega arith)) (numeral_digits 4 i.second (omega arith))

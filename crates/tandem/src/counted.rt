@@ -9,11 +9,12 @@ use crate::jobs::TandemJob;
 use crate::summaries::TandemSummary;
 use byte_fields::{put_number, read_number};
 use counts::{CountSummary, FrameCount};
-use station::{Letter, Pair, RecordFault, Recorded, RecordedWith};
+use station::{Letter, Pair, RECORD_SIZE, RecordFault, Recorded, RecordedWith};
+use std::ops::Range;
 
-// Frame counts beside two servers in tandem: a tandem job's record, with the count in the last two
-// bytes. No byte is unused.
-const COUNT_PLACE: usize = 14;
+// Frame counts beside two servers in tandem: a tandem job's record, with the count in the last two bytes. No byte is
+// unused.
+const COUNT: Range<usize> = 14..RECORD_SIZE;
 
 impl RecordedWith<CountSummary> for TandemSummary {
     ghost together = { counted_records };
@@ -24,18 +25,18 @@ impl RecordedWith<CountSummary> for TandemSummary {
         Letter::P
     }
 
-    fn read_with(bytes: [u8; 16]) -> Result<Pair<FrameCount, TandemJob>, RecordFault> {
+    fn read_with(bytes: [u8; RECORD_SIZE]) -> Result<Pair<FrameCount, TandemJob>, RecordFault> {
         let second = TandemJob::in_front(bytes)?;
-        let first = FrameCount::of_field(read_number(&bytes[COUNT_PLACE..16]), COUNT_PLACE)?;
+        let first = FrameCount::of_field(read_number(&bytes[COUNT]), COUNT.start)?;
         Ok(Pair { first, second })
     }
 
-    fn write_with(item: Pair<FrameCount, TandemJob>) -> [u8; 16]
+    #[tactic(auto, unfolding(byte_fields::specs::Unused::zeros))]
+    fn write_with(item: Pair<FrameCount, TandemJob>) -> [u8; RECORD_SIZE]
         ensures is { result ≡ counted_written item }
         ensures back { (pair_rules count_rules tandem_rules).is_item item → counted_read result ≡ Ok item }
     {
-        let count = u64::from(item.first.count());
         let bytes = TandemSummary::write(item.second);
-        put_number(bytes, COUNT_PLACE, 16, count)
+        put_number(bytes, COUNT, u64::from(item.first.count()))
     }
 }

@@ -6,31 +6,29 @@ ghost use Rattle.tandem.specs.JobRecords.{tandem_job_laws};
 
 use crate::jobs::TandemJob;
 use crate::summaries::TandemSummary;
-use byte_fields::{first_used, put_number, read_number};
+use byte_fields::{check_unused, put_number, read_number};
 use server::{CLOCK_END, SERVICE_LIMIT};
-use station::{Letter, RecordFault, Recorded};
+use station::{Letter, RECORD_SIZE, RecordFault, Recorded, limited};
+use std::ops::Range;
 
-// Arrival in bytes 0 to 5, first service in 6 to 9, second in 10 to 13; the others are 0.
-const FIRST_PLACE: usize = 6;
+// Where the fields stand; the bytes behind them are 0.
+const ARRIVAL: Range<usize> = 0..6;
 
-const SECOND_PLACE: usize = 10;
+const FIRST: Range<usize> = 6..10;
 
-const UNUSED_PLACE: usize = 14;
+const SECOND: Range<usize> = 10..14;
+
+const UNUSED: Range<usize> = 14..RECORD_SIZE;
 
 impl TandemJob {
     // The job with three numbers, or the place in a record of the first that is over its limit.
     pub fn of_fields(arrival: u64, first: u64, second: u64) -> Result<TandemJob, RecordFault>
         ensures { result ≡ placed_tandem_job arrival first second }
     {
-        if arrival > CLOCK_END {
-            return Err(RecordFault::Limit(0));
-        }
-        if first > u64::from(SERVICE_LIMIT) {
-            return Err(RecordFault::Limit(FIRST_PLACE));
-        }
-        if second > u64::from(SERVICE_LIMIT) {
-            return Err(RecordFault::Limit(SECOND_PLACE));
-        }
+        let longest = u64::from(SERVICE_LIMIT);
+        let arrival = limited(arrival, CLOCK_END, ARRIVAL.start)?;
+        let first = limited(first, longest, FIRST.start)?;
+        let second = limited(second, longest, SECOND.start)?;
         Ok(TandemJob {
             arrival,
             first: first as u32,
@@ -39,13 +37,13 @@ impl TandemJob {
     }
 
     // The job in the first 14 bytes of a record.
-    pub(crate) fn in_front(bytes: [u8; 16]) -> Result<TandemJob, RecordFault>
+    pub(crate) fn in_front(bytes: [u8; RECORD_SIZE]) -> Result<TandemJob, RecordFault>
         ensures { result ≡ placed_tandem_job (field 0 6 bytes) (field 6 10 bytes) (field 10 14 bytes) }
     {
         TandemJob::of_fields(
-            read_number(&bytes[0..FIRST_PLACE]),
-            read_number(&bytes[FIRST_PLACE..SECOND_PLACE]),
-            read_number(&bytes[SECOND_PLACE..UNUSED_PLACE]),
+            read_number(&bytes[ARRIVAL]),
+            read_number(&bytes[FIRST]),
+            read_number(&bytes[SECOND]),
         )
     }
 }
@@ -59,21 +57,18 @@ impl Recorded for TandemSummary {
         Letter::T
     }
 
-    fn read(bytes: [u8; 16]) -> Result<TandemJob, RecordFault> {
-        if let Some(place) = first_used(&bytes[UNUSED_PLACE..16]) {
-            return Err(RecordFault::Layout(UNUSED_PLACE + place));
-        }
+    fn read(bytes: [u8; RECORD_SIZE]) -> Result<TandemJob, RecordFault> {
+        check_unused(&bytes, UNUSED)?;
         TandemJob::in_front(bytes)
     }
 
-    fn write(item: TandemJob) -> [u8; 16]
+    #[tactic(auto, unfolding(byte_fields::specs::Unused::zeros))]
+    fn write(item: TandemJob) -> [u8; RECORD_SIZE]
         ensures is { result ≡ tandem_job_written item }
         ensures back { tandem_rules.is_item item → tandem_job_read result ≡ Ok item }
     {
-        let first = u64::from(item.first);
-        let second = u64::from(item.second);
-        let bytes = put_number([0; 16], 0, FIRST_PLACE, item.arrival);
-        let bytes = put_number(bytes, FIRST_PLACE, SECOND_PLACE, first);
-        put_number(bytes, SECOND_PLACE, UNUSED_PLACE, second)
+        let bytes = put_number([0; RECORD_SIZE], ARRIVAL, item.arrival);
+        let bytes = put_number(bytes, FIRST, u64::from(item.first));
+        put_number(bytes, SECOND, u64::from(item.second))
     }
 }

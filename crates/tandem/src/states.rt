@@ -31,6 +31,7 @@ impl TandemState {
     }
 }
 
+// Written out: a pass starts from zeros because the rules say so, and a derive would not be held to that here.
 impl Default for TandemState {
     ghost is_default = { λ state. state ≡ tandem_state 0 0 };
 

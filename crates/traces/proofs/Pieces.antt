@@ -1,10 +1,9 @@
 -- The summary of a trace in pieces takes each state where the replay takes it.
-use Rattle.std.proofs.Common.{◌≡◌, ℕ, ◌+◌, ◌<◌, List, [], ◌∷◌, ◌++◌, map, length, get_or, take, drop, sym, refl, ap, ◌∙◌, subst}
+use Rattle.std.proofs.Common.{◌≡◌, ℕ, ◌+◌, ◌<◌, List, [], ◌∷◌, ◌++◌, map, length, get_or, take, drop, sym, refl, ap, ◌∙◌, subst, Some, None}
 use Rattle.std.specs.List.{AllByRecursion}
 use Rattle.std.proofs.lemmas.List.{map-append, take-map, get_or-map, length-map, take_at}
 use Rattle.std.proofs.ByRecursion.{All-map, All-weaker}
-use Rattle.traces.specs.declared.entries.Entry.{Entry}
-use Rattle.traces.specs.declared.entries.Entry.TheVariants.{Item, Withdrawn}
+use Rattle.traces.specs.Entries.{Entry}
 use Rattle.station.specs.Laws.{Joins, JoinLaws, Rules, StationLaws, Agreement, Gives}
 use Rattle.traces.specs.Lists.{gathered, fronts, prefixes}
 use Rattle.traces.specs.Spreading.{Spreads}
@@ -15,8 +14,8 @@ use Rattle.traces.proofs.Groupings.{bracketing_value}
 
 module _ {S I D : Type 0} {j : Joins S} {k : Rules S I D} (laws : JoinLaws j) (steps : StationLaws j k) (agree : Agreement j k) where
   pub summary_counts : (e : Entry I) → EntryCounts k e → j.is_summary (summary_of j k e)
-  summary_counts (Item i) t = steps.of_item_counts i t
-  summary_counts Withdrawn t = laws.empty_counts
+  summary_counts (Some i) t = steps.of_item_counts i t
+  summary_counts None t = laws.empty_counts
 
   pub summaries_count : (es : List (Entry I)) → AllByRecursion (EntryCounts k) es → AllByRecursion j.is_summary (map (summary_of j k) es)
   summaries_count [] all = tt
@@ -28,11 +27,11 @@ module _ {S I D : Type 0} {j : Joins S} {k : Rules S I D} (laws : JoinLaws j) (s
   -- the summary's effect is the replay
   pub piece_effect : (es : List (Entry I)) (d : D) → k.is_state d → AllByRecursion (EntryCounts k) es → k.effect (piece_summary j k es) d ≡ ran k d es
   piece_effect [] d h all = agree.empty d h
-  piece_effect (Item i ∷ es) d h all =
+  piece_effect (Some i ∷ es) d h all =
       agree.join (k.of_item i) (piece_summary j k es) d (steps.of_item_counts i all.0) (piece_counts es all.1) h
       ∙ ap (k.effect (piece_summary j k es)) (steps.item_steps i d all.0 h)
       ∙ piece_effect es (k.stepped d i) (steps.stepped_counts d i h all.0) all.1
-  piece_effect (Withdrawn ∷ es) d h all =
+  piece_effect (None ∷ es) d h all =
       ap (λ s. k.effect s d) (laws.empty_left (piece_summary j k es) (piece_counts es all.1))
       ∙ piece_effect es d h all.1
 

@@ -1,3 +1,4 @@
+pub mod Entries
 pub mod Lists
 pub mod Traces
 pub mod Spreading

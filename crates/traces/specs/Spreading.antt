@@ -1,7 +1,7 @@
 -- States written along the prefixes of a trace.
 use Rattle.std.specs.Prelude.{◌≡◌, ℕ, cond, List, ◌++◌, map, length, take, drop, Ok, Err, Result, nat_le}
 use Rattle.std.specs.List.{AllByRecursion}
-use Rattle.traces.specs.declared.entries.Entry.{Entry}
+use Rattle.traces.specs.Entries.{Entry}
 use Rattle.station.specs.Laws.{Joins, Rules}
 use Rattle.station.specs.declared.refusals.Refusal.{Refusal}
 use Rattle.station.specs.declared.refusals.Refusal.TheVariants.{ShortMemory}

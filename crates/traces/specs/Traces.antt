@@ -1,7 +1,6 @@
 -- Traces of items and withdrawn entries: their replay, and the summaries of their pieces.
-use Rattle.std.specs.Prelude.{◌≡◌, List, [], ◌∷◌, ◌++◌, map}
-use Rattle.traces.specs.declared.entries.Entry.{Entry}
-use Rattle.traces.specs.declared.entries.Entry.TheVariants.{Item, Withdrawn}
+use Rattle.std.specs.Prelude.{◌≡◌, List, [], ◌∷◌, ◌++◌, map, Some, None}
+use Rattle.traces.specs.Entries.{Entry}
 use Rattle.station.specs.Laws.{Joins, Rules}
 use Rattle.traces.specs.Lists.{gathered, fronts, Bracketing}
 
@@ -13,8 +12,8 @@ replayed k d (i ∷ is) = replayed k (k.stepped d i) is
 -- the items of a trace: a withdrawn entry has none, and so leaves every state as it is
 abbrev pub items_of : {I : Type 0} → List (Entry I) → List I
 items_of [] = []
-items_of (Item i ∷ es) = i ∷ items_of es
-items_of (Withdrawn ∷ es) = items_of es
+items_of (Some i ∷ es) = i ∷ items_of es
+items_of (None ∷ es) = items_of es
 
 -- the replay of a trace
 abbrev pub ran : {S I D : Type 0} → Rules S I D → D → List (Entry I) → D
@@ -25,12 +24,12 @@ abbrev pub states_along : {S I D : Type 0} → Rules S I D → D → List (Entry
 states_along k d es = map (ran k d) (fronts es)
 
 abbrev pub EntryCounts : {S I D : Type 0} → Rules S I D → Entry I → Type 0
-EntryCounts k (Item i) = k.is_item i
-EntryCounts k Withdrawn = Unit {0}
+EntryCounts k (Some i) = k.is_item i
+EntryCounts k None = Unit {0}
 
 abbrev pub summary_of : {S I D : Type 0} → Joins S → Rules S I D → Entry I → S
-summary_of j k (Item i) = k.of_item i
-summary_of j k Withdrawn = j.empty
+summary_of j k (Some i) = k.of_item i
+summary_of j k None = j.empty
 
 -- the summary of a piece: the gather of its entries' summaries
 abbrev pub piece_summary : {S I D : Type 0} → Joins S → Rules S I D → List (Entry I) → S

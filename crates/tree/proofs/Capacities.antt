@@ -1,30 +1,20 @@
 -- `capacity` is the largest power of two of which the cells hold twice as many, and nothing else is.
-use Rattle.std.proofs.Common.{◌≡◌, ℕ, zero, suc, ◌*◌, ◌^◌, ◌<◌, ◌≤◌, leb, ◌⊎◌, refl, inl, inr, ⊎_elim, pow-suc, arith, pow_pos, pow_mono}
+use Rattle.std.proofs.Common.{◌≡◌, ℕ, zero, suc, min, ◌*◌, ◌/◌, ◌^◌, ◌<◌, ◌≤◌, leb, ◌⊎◌, refl, inl, inr, ⊎_elim, pow-suc, arith, pow_pos, pow_mono}
 use Rattle.std.proofs.lemmas.Bool.{cases_lt, cond_both, leb-true, leb-false}
 use Rattle.tree.specs.Capacity.{CapacityUpTo, IsCapacity, capacity_from, capacity}
 
 -- a power of two below another is at most half of it
-pub half : (a b : ℕ) → 2 ^ a < 2 ^ b → 2 * 2 ^ a ≤ 2 ^ b
-half a b h =
-    ⊎_elim (λ (l : a < b). let up : 2 ^ suc a ≤ 2 ^ b = pow_mono {i = suc a} {j = b} l in omega (arith, pow-suc 2 a))
-    (λ (l : b ≤ a). let down : 2 ^ b ≤ 2 ^ a = pow_mono l in omega arith) (cases_lt a b)
+half : (a b : ℕ) → 2 ^ a < 2 ^ b → 2 * 2 ^ a ≤ 2 ^ b
+half a b h = grind (arith, pow-suc 2 a, pow_mono {i = suc a} {j = b}, pow_mono {i = b} {j = a})
 
 -- where twice the power found would be too much, it is the largest
 largest : (most cells n k : ℕ) → n ≡ 2 ^ k → (most ≤ n) ⊎ (cells < 2 * (2 * n)) → (m : ℕ) → 2 * 2 ^ m ≤ cells → 2 ^ m ≤ most → 2 ^ m ≤ n
-largest most cells n k is (inl h) m a b = omega arith
-largest most cells n k is (inr h) m a b =
-    ⊎_elim (λ (l : n < 2 ^ m). let up = half k m (omega arith) in omega arith) (λ (l : 2 ^ m ≤ n). l) (cases_lt n (2 ^ m))
+largest most cells n k is h m a b = grind (arith, half k m)
 
 pub few_cells : (most cells : ℕ) → cells < 2 → CapacityUpTo most cells 0
-few_cells most cells few = record {
-  none = λ h. refl;
-  power = λ h. absurd (omega arith);
-  held = omega arith;
-  small = omega arith;
-  largest = λ h. absurd (omega arith);
-}
+few_cells most cells few = grind arith
 
-pub one_room : (cells n k : ℕ) → 2 ≤ cells → n ≡ 2 ^ k → 2 * n ≤ cells → (most : ℕ) → n ≤ most → (most ≤ n) ⊎ (cells < 2 * (2 * n)) → CapacityUpTo most cells n
+one_room : (cells n k : ℕ) → 2 ≤ cells → n ≡ 2 ^ k → 2 * n ≤ cells → (most : ℕ) → n ≤ most → (most ≤ n) ⊎ (cells < 2 * (2 * n)) → CapacityUpTo most cells n
 one_room cells n k two is held most small top = record {
   none = λ h. omega arith;
   power = λ h. (k, is);
@@ -51,7 +41,7 @@ from_room (suc k) cells =
       power = below.power;
       held = below.held;
       small = (let s = below.small in omega arith);
-      largest = λ h m a b. below.largest h m a (⊎_elim (λ (l : 2 ^ k < 2 ^ m). let up = half k m l in omega arith) (λ (l : 2 ^ m ≤ 2 ^ k). l) (cases_lt (2 ^ k) (2 ^ m)));
+      largest = λ h m a b. below.largest h m a (grind (arith, half k m));
     })
 
 pub capacity_room : (cells : ℕ) → IsCapacity cells (capacity cells)
@@ -59,18 +49,14 @@ unfolding capacity
 capacity_room cells = from_room 12 cells
 
 room_le : (cells n m : ℕ) → IsCapacity cells n → IsCapacity cells m → n ≤ m
-room_le cells n m a b =
-    ⊎_elim (λ (few : cells < 2). let z = a.none few in omega arith)
-    (λ (two : 2 ≤ cells).
-    let p = a.power two in
-    let is : n ≡ 2 ^ p.0 = p.1 in
-    let held = a.held in
-    let small = a.small in
-    let up = b.largest two p.0 (omega arith) (omega arith) in
-    omega arith) (cases_lt cells 2)
+room_le cells n m a b = grind arith
 
 pub is_capacity : (cells n : ℕ) → IsCapacity cells n → n ≡ capacity cells
-is_capacity cells n a =
-    let x = room_le cells n (capacity cells) a (capacity_room cells) in
-    let y = room_le cells (capacity cells) n (capacity_room cells) a in
-    omega arith
+is_capacity cells n a = grind (arith, room_le cells n (capacity cells) a (capacity_room cells), room_le cells (capacity cells) n (capacity_room cells) a)
+
+-- from the power of two that a logarithm gives
+pub power_room : (cells n k : ℕ) → 2 ^ k ≤ cells / 2 → cells / 2 < 2 * 2 ^ k → n ≡ min 4096 (2 ^ k) → IsCapacity cells n
+power_room cells n k fit next is =
+    let pos = pow_pos k in
+    ⊎_elim (λ (l : 2 ^ k < 4096). one_room cells n k (omega arith) (omega arith) (omega arith) 4096 (omega arith) (inr (omega arith)))
+    (λ (o : 4096 ≤ 2 ^ k). one_room cells n 12 (omega arith) (omega arith) (omega arith) 4096 (omega arith) (inl (omega arith))) (cases_lt (2 ^ k) 4096)

@@ -11,10 +11,10 @@ module _ {S : Type 0} {j : Joins S} {n : ℕ} (a b : List S) (ta : Tree j n a) (
   up (suc m) k pos h =
       ⊎_elim
       (λ (l : k < n).
-      let e1 = up m (2 * k) (omega arith) (omega arith) in
-      let e2 = up m (2 * k + 1) (omega arith) (omega arith) in
-      let ea = ta.inner k pos l in
-      let eb = tb.inner k pos l in
+      let left = up m (2 * k) (omega arith) (omega arith) in
+      let right = up m (2 * k + 1) (omega arith) (omega arith) in
+      let here = ta.inner k pos l in
+      let there = tb.inner k pos l in
       cc)
       (λ (o : n ≤ k). leaves k o) (cases_lt k n)
 

@@ -25,16 +25,20 @@ pub record Writes {S : Type 0} (j : Joins S) (fit : Result (Unit {0}) Refusal) (
   pub refused : r ≡ Err NoSuchPosition → after ≡ before
   pub granted : r ≡ Ok tt → Rejoined j (places_of before) before wanted after
 
--- Cells that have the same outside a range of leaves.
-pub record AlikeOutside {S : Type 0} (j : Joins S) (from to : ℕ) (before wanted : List S) : Type 0 where
+-- Cells that have the same outside a range of them.
+pub record AlikeOutside {S : Type 0} (j : Joins S) (low high : ℕ) (before wanted : List S) : Type 0 where
   pub long : length wanted ≡ length before
-  pub same : (k : ℕ) → (k < places_of wanted + from) ⊎ (places_of wanted + to ≤ k) → cell j wanted k ≡ cell j before k
+  pub same : (k : ℕ) → (k < low) ⊎ (high ≤ k) → cell j wanted k ≡ cell j before k
 
 -- Cells in which a range of leaves was written are joined anew above them, over whatever they held before.
+abbrev pub JoinedAbove : {S : Type 0} → Joins S → ℕ → ℕ → List S → List S → Type 0
+JoinedAbove {S} j low high wanted after = (before : List S) → AlikeOutside j low high before wanted → Rejoined j (places_of wanted) before wanted after
+
+-- A call that joins anew above a range of leaves is granted or refused; refused, it leaves the cells.
 pub record Rejoins {S : Type 0} (j : Joins S) (from to : ℕ) (wanted after : List S) (r : Result (Unit {0}) Refusal) : Type 0 where
   pub is : r ≡ ranged wanted from to
   pub refused : r ≡ Err NoSuchPosition → after ≡ wanted
-  pub granted : r ≡ Ok tt → (before : List S) → AlikeOutside j from to before wanted → Rejoined j (places_of wanted) before wanted after
+  pub granted : r ≡ Ok tt → JoinedAbove j (places_of wanted + from) (places_of wanted + to) wanted after
 
 -- what is wanted: a leaf, leaves one behind another, empty leaves
 abbrev pub with_leaf : {S : Type 0} → List S → ℕ → S → List S

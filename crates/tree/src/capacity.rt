@@ -9,12 +9,8 @@ pub fn capacity_of(cells: usize) -> usize
     ensures is { result ≡ capacity cells }
     ensures largest { IsCapacity cells result }
 {
-    if cells < 2 {
-        return 0;
+    match (cells / 2).checked_ilog2() {
+        Some(power) => MOST_PLACES.min(1 << power),
+        None => 0,
     }
-    let mut places: usize = 1;
-    while places < MOST_PLACES && 2 * places <= cells / 2 {
-        places *= 2;
-    }
-    places
 }

@@ -3,8 +3,8 @@
 
 mod capacity;
 mod emptying;
-mod filling;
 mod leaves;
+mod placing;
 mod rejoining;
 mod stretching;
 mod trying;

@@ -1,47 +1,43 @@
-ghost use Rattle.std.specs.Prelude.{◌+◌, ◌*◌, ◌/◌, ◌<◌, ◌≤◌, length};
-ghost use Rattle.tree.specs.Answers.{Rejoins};
-ghost use Rattle.tree.specs.Levels.{Climbed, LevelJoined, OneLevel, Within};
+ghost use Rattle.std.specs.Prelude.{◌*◌, ◌≤◌, length};
+ghost use Rattle.tree.specs.Answers.{JoinedAbove, Rejoins, places_of};
+ghost use Rattle.tree.specs.Levels.{Above, LevelJoined};
 
-use crate::capacity::capacity_of;
+use crate::placing::leaves_of;
 use station::{Refusal, Summary};
+use std::ops::Range;
 
-// Joins the cells from `low` to `high`, each from the two below it; above them cells are wrong then.
-fn join_level<S: Summary>(cells: &mut [S], low: usize, high: usize)
-    requires { 2 * high + 1 < length cells.old }
-    ensures { LevelJoined S.Summary.joins low high (Within (low / 2) (high / 2)) cells.old cells.new }
+// Joins the cells of a part of a level, each from the two below it; above them cells are wrong then.
+fn join_level<S: Summary>(cells: &mut [S], level: Range<usize>)
+    requires { 2 * level.end ≤ length cells.old }
+    ensures { LevelJoined S.Summary.joins level.start level.end (Above level.start level.end) cells.old cells.new }
 {
-    for k in low..high + 1 {
+    // By index, since a cell and the two below it lie in one slice.
+    for k in level {
         cells[k] = cells[2 * k].join(cells[2 * k + 1]);
     }
 }
 
-// Joins anew all that lies above the cells from `low` to `high`, level by level, each cell once.
-pub(crate) fn rejoin<S: Summary>(cells: &mut [S], places: usize, low: usize, high: usize)
-    requires held { 2 * places ≤ length cells.old }
-    requires within { high < 2 * places }
-    requires level { OneLevel low high }
-    ensures { Climbed S.Summary.joins places (Within (low / 2) (high / 2)) (Within 0 0) cells.old cells.new }
+// Joins anew all that lies above some leaves, level by level, each cell once.
+pub(crate) fn rejoin<S: Summary>(cells: &mut [S], leaves: Range<usize>)
+    requires first { places_of cells.old ≤ leaves.start }
+    requires last { leaves.end ≤ 2 * places_of cells.old }
+    ensures { JoinedAbove S.Summary.joins leaves.start leaves.end cells.old cells.new }
 {
-    let mut low = low / 2;
-    let mut high = high / 2;
-    while low > 0 {
-        join_level(cells, low, high);
+    let mut low = leaves.start;
+    let mut high = leaves.end;
+    // Where a level begins and ends follows from the one below it, so a `for` over the levels would be no plainer.
+    while low > 1 {
         low /= 2;
-        high /= 2;
+        high = high.div_ceil(2);
+        join_level(cells, low..high);
     }
 }
 
 // Joins anew the cells above a range of leaves, each once, for who has written these leaves.
-pub fn rejoin_leaves<S: Summary>(cells: &mut [S], from: usize, to: usize) -> Result<(), Refusal>
-    ensures { Rejoins S.Summary.joins from to cells.old cells.new result }
+pub fn rejoin_leaves<S: Summary>(cells: &mut [S], places: Range<usize>) -> Result<(), Refusal>
+    ensures { Rejoins S.Summary.joins places.start places.end cells.old cells.new result }
 {
-    let places = capacity_of(cells.len());
-    if from > to || to > places {
-        return Err(Refusal::NoSuchPosition);
-    }
-    if from == to {
-        return Ok(());
-    }
-    rejoin(cells, places, places + from, places + to - 1);
+    let leaves = leaves_of(cells.len(), places)?;
+    rejoin(cells, leaves);
     Ok(())
 }

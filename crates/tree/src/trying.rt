@@ -1,19 +1,16 @@
 ghost use Rattle.std.specs.Prelude.{◌≡◌, slice_set};
 ghost use Rattle.tree.specs.Answers.{Writes, placed, with_old, with_trial};
 
-use crate::capacity::capacity_of;
 use crate::leaves::write_leaf;
+use crate::placing::leaf_of;
 use station::{Refusal, Summary};
 
 // Keeps the leaf of one place in cell 0, which is no part of the tree, and writes another.
 pub fn try_leaf<S: Summary>(cells: &mut [S], place: usize, leaf: S) -> Result<(), Refusal>
     ensures { Writes S.Summary.joins (placed cells.old place) cells.old (with_trial S.Summary.joins cells.old place leaf) cells.new result }
 {
-    let places = capacity_of(cells.len());
-    if place >= places {
-        return Err(Refusal::NoSuchPosition);
-    }
-    cells[0] = cells[places + place];
+    let at = leaf_of(cells.len(), place)?;
+    cells[0] = cells[at];
     write_leaf(cells, place, leaf)
 }
 
@@ -21,10 +18,7 @@ pub fn try_leaf<S: Summary>(cells: &mut [S], place: usize, leaf: S) -> Result<()
 pub fn restore_leaf<S: Summary>(cells: &mut [S], place: usize) -> Result<(), Refusal>
     ensures { Writes S.Summary.joins (placed cells.old place) cells.old (with_old S.Summary.joins cells.old place) cells.new result }
 {
-    let places = capacity_of(cells.len());
-    if place >= places {
-        return Err(Refusal::NoSuchPosition);
-    }
+    leaf_of(cells.len(), place)?;
     let kept = cells[0];
     release_leaf(cells);
     write_leaf(cells, place, kept)
@@ -34,7 +28,7 @@ pub fn restore_leaf<S: Summary>(cells: &mut [S], place: usize) -> Result<(), Ref
 pub fn release_leaf<S: Summary>(cells: &mut [S])
     ensures { cells.new ≡ slice_set cells.old 0 S.Summary.joins.empty }
 {
-    if cells.len() > 0 {
-        cells[0] = S::empty();
+    if let Some(first) = cells.first_mut() {
+        *first = S::empty();
     }
 }

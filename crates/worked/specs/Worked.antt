@@ -1,7 +1,6 @@
 -- The worked figures of docs/RULES.md, as facts about the definitions that the contracts cite.
 use Rattle.std.specs.Prelude.{◌≡◌, ℕ, List, [], ◌∷◌, Some, Ok, Err}
-use Rattle.traces.specs.declared.entries.Entry.{Entry}
-use Rattle.traces.specs.declared.entries.Entry.TheVariants.{Item}
+use Rattle.traces.specs.Entries.{Entry}
 use Rattle.station.specs.declared.refusals.Refusal.TheVariants.{StateLimit}
 use Rattle.traces.specs.Traces.{ran, states_along, piece_summary}
 use Rattle.server.specs.declared.jobs.Job.{Job}
@@ -18,13 +17,13 @@ use Rattle.counts.specs.Tallies.{tallied, no_tallies}
 use Rattle.counts.specs.Counts.{frame_count, count_state, count_rules}
 
 abbrev server_trace : List (Entry Job)
-server_trace = Item (job 10 5) ∷ Item (job 12 5) ∷ Item (job 40 3) ∷ []
+server_trace = Some (job 10 5) ∷ Some (job 12 5) ∷ Some (job 40 3) ∷ []
 
 abbrev tandem_trace : List (Entry TandemJob)
-tandem_trace = Item (tandem_job 0 4 6) ∷ Item (tandem_job 1 4 1) ∷ []
+tandem_trace = Some (tandem_job 0 4 6) ∷ Some (tandem_job 1 4 1) ∷ []
 
 abbrev buffer_trace : List (Entry Slot)
-buffer_trace = Item (slot 5 2 4) ∷ Item (slot 1 3 4) ∷ []
+buffer_trace = Some (slot 5 2 4) ∷ Some (slot 1 3 4) ∷ []
 
 -- the map of one letter and then of another
 abbrev lock_join : ℕ → ℕ → LockMap
@@ -35,8 +34,8 @@ pub record ServerFigures : Type 0 where
   pub summary : piece_summary server_joins server_rules server_trace ≡ server_summary 13 43
   pub replay : ran server_rules (server_state 100) server_trace ≡ server_state 113
   pub effect : server_rules.effect (server_summary 13 43) (server_state 100) ≡ server_state 113
-  pub last_tick : ran server_rules (server_state 1099511627774) (Item (job 0 1) ∷ []) ≡ server_state 1099511627775
-  pub past_end : ran server_rules (server_state 1099511627775) (Item (job 0 1) ∷ []) ≡ server_state 1099511627775
+  pub last_tick : ran server_rules (server_state 1099511627774) (Some (job 0 1) ∷ []) ≡ server_state 1099511627775
+  pub past_end : ran server_rules (server_state 1099511627775) (Some (job 0 1) ∷ []) ≡ server_state 1099511627775
 
 pub record TandemFigures : Type 0 where
   pub states : states_along tandem_rules (tandem_state 0 0) tandem_trace ≡ tandem_state 4 10 ∷ tandem_state 8 11 ∷ []

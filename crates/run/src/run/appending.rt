@@ -1,6 +1,6 @@
-ghost use Rattle.std.specs.Prelude.{◌≡◌, IsErr, IsSome, OnErr};
+ghost use Rattle.std.specs.Prelude.{IsErr, IsSome};
 ghost use Rattle.run.specs.Calls.{Append, AtPosition, answer_by};
-ghost use Rattle.run.specs.Serving.{Serves};
+ghost use Rattle.run.specs.Serving.{Keeps, Serves};
 
 use crate::run::Run;
 use station::{Refusal, Station};
@@ -10,13 +10,10 @@ impl<'a, K: Station> Run<'a, K> {
     // Adds an item, and answers its position.
     pub fn append(&mut self, item: K::Item) -> Result<usize, Refusal>
         ensures serves { Serves K.Summary.joins K.Station.rules (Append item) self.old self.new (answer_by AtPosition result) }
-        ensures refused { OnErr result (self.new ≡ self.old) }
+        ensures keeps { Keeps self.old self.new result }
         ensures tried { IsSome self.old.trial → IsErr result }
-        ensures same { self.new.cells.ghost_name ≡ self.old.cells.ghost_name }
     {
-        if self.trial.is_some() {
-            return Err(Refusal::TrialOpen);
-        }
+        self.ensure_settled()?;
         let position = self.length;
         if position >= capacity_of(self.cells.len()) {
             return Err(Refusal::NoRoom);

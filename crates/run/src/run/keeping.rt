@@ -1,6 +1,6 @@
 ghost use Rattle.std.specs.Prelude.{◌≡◌, IfErr, IsOk};
 ghost use Rattle.run.specs.Calls.{Keep, settle_answer};
-ghost use Rattle.run.specs.Serving.{Serves};
+ghost use Rattle.run.specs.Serving.{Keeps, Serves};
 ghost use Rattle.run.specs.Standing.{IsSettledBy};
 
 use crate::run::Run;
@@ -12,9 +12,9 @@ impl<'a, K: Station> Run<'a, K> {
     // Ends the trial with the new entry.
     pub fn keep(&mut self, ticket: Ticket) -> Result<(), Unsettled>
         ensures serves { Serves K.Summary.joins K.Station.rules (Keep ticket.number) self.old self.new (settle_answer result) }
-        ensures refused { IfErr result (λ e. (e.ticket ≡ ticket) × (self.new ≡ self.old)) }
+        ensures keeps { Keeps self.old self.new result }
+        ensures ticket { IfErr result (λ e. e.ticket ≡ «ticket») }
         ensures settles { IsSettledBy ticket.number self.old → IsOk result }
-        ensures same { self.new.cells.ghost_name ≡ self.old.cells.ghost_name }
     {
         if self.tried_by(&ticket).is_none() {
             return Err(Unsettled {

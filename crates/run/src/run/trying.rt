@@ -1,7 +1,7 @@
-ghost use Rattle.std.specs.Prelude.{◌≡◌, IfOk, OnErr};
+ghost use Rattle.std.specs.Prelude.{◌≡◌, IfOk};
 ghost use Rattle.run.specs.Calls.{Try, answer_by, ticket_granted};
-ghost use Rattle.run.specs.Serving.{Serves};
-ghost use Rattle.run.specs.Standing.{IsSettledBy, tried_by};
+ghost use Rattle.run.specs.Serving.{Keeps, Serves};
+ghost use Rattle.run.specs.Standing.{IsSettledBy, tried_by, unless_open, unless_uneditable};
 
 use crate::run::Run;
 use crate::tickets::Ticket;
@@ -12,21 +12,36 @@ impl<'a, K: Station> Run<'a, K> {
     // Tries another item at a position; the ticket has to be settled.
     pub fn trial(&mut self, position: usize, item: K::Item) -> Result<Ticket, Refusal>
         ensures serves { Serves K.Summary.joins K.Station.rules (Try position item) self.old self.new (answer_by ticket_granted result) }
-        ensures refused { OnErr result (self.new ≡ self.old) }
+        ensures keeps { Keeps self.old self.new result }
         ensures settled_by { IfOk result (λ ticket. IsSettledBy ticket.number self.new) }
-        ensures same { self.new.cells.ghost_name ≡ self.old.cells.ghost_name }
     {
-        if self.trial.is_some() {
-            return Err(Refusal::TrialOpen);
-        }
-        if position >= self.length {
-            return Err(Refusal::NoSuchPosition);
-        }
+        self.ensure_editable(position)?;
         try_leaf(self.cells, position, K::of_item(item))?;
         self.trial = Some(position);
         Ok(Ticket {
             number: self.number,
         })
+    }
+
+    // Refuses while a trial is open.
+    pub(crate) fn ensure_settled(&self) -> Result<(), Refusal>
+        ensures { result ≡ unless_open self.now.trial }
+    {
+        match self.trial {
+            Some(_) => Err(Refusal::TrialOpen),
+            None => Ok(()),
+        }
+    }
+
+    // Refuses while a trial is open, and then a position without an entry.
+    pub(crate) fn ensure_editable(&self, position: usize) -> Result<(), Refusal>
+        ensures { result ≡ unless_uneditable self.now.trial position self.now.length }
+    {
+        match self.trial {
+            Some(_) => Err(Refusal::TrialOpen),
+            None if position >= self.length => Err(Refusal::NoSuchPosition),
+            None => Ok(()),
+        }
     }
 
     // The place that is tried, if a trial is open and this ticket settles it.

@@ -1,23 +1,15 @@
-use Rattle.std.proofs.Common.{◌+◌, refl, arith}
-use Rattle.std.proofs.lemmas.Nat.{mul-le}
+use Rattle.std.proofs.Common.{◌≡◌, take, drop, refl, ap, ◌∙◌, arith}
+use Rattle.std.proofs.lemmas.List.{at_drop_all, take_min}
 use Rattle.byte_fields.specs.Unused.{zeros}
+use Rattle.block.specs.Check.{weighed}
 use Rattle.block.specs.Layout.{framed}
-use Rattle.block.proofs.Checks.{weighed_step, weighed_end}
 use Rattle.block.proofs.check.check_of.Goals as goal
-
-pub overflow_add-sum-in-loop-i : goal.overflow_add-sum-in-loop-i
-overflow_add-sum-in-loop-i c = omega (arith, mul-le (c.loop-i.i + 1) c.from.result 508 255 (omega arith) (omega arith))
-
-pub loop-i-preserved : goal.loop-i-preserved
-loop-i-preserved c =
-    let i = c.loop-i.i in (
-      omega (arith, c.loop-i.invariant.0, weighed_step c.args.bytes.now i c.from.result (omega arith) (omega arith) c.from.ensures),
-      omega (arith, mul-le (i + 1) c.from.result 508 255 (omega arith) (omega arith)),
-    )
 
 pub returns : goal.returns
 unfolding zeros framed
-returns c = record {
-  is = omega (arith, c.loop-i.invariant.0, weighed_end c.args.bytes.now c.loop-i.i (omega arith));
-  example = refl;
-}
+returns c =
+    let bs = c.args.bytes.now in
+    let i = c.loop-i.i in
+    let none : weighed i (drop i (take c.min.result bs)) ≡ 0 = at_drop_all (weighed i) (take c.min.result bs) i (omega arith) in
+    let all : weighed 0 (take c.min.result bs) ≡ weighed 0 (take 508 bs) = ap (λ n. weighed 0 (take n bs)) (omega arith) ∙ ap (weighed 0) (take_min 508 bs) in
+    record { is = omega arith; example = refl }

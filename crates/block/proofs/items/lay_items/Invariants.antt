@@ -1,5 +1,12 @@
-use Rattle.block.proofs.Laid.{Laid}
+use Rattle.std.proofs.Common.{◌≡◌, ◌-◌, ◌*◌, ◌++◌, length, take}
+use Rattle.std.specs.List.{flat_map}
+use Rattle.byte_fields.specs.Unused.{zeros}
 use Rattle.block.proofs.items.lay_items.Given as goal
 
-abbrev pub invariant-loop-item : goal.invariant-loop-item
-invariant-loop-item g l = Laid g.K.Recorded.records.written l.items l.item-index l.end l.initial.content l.content
+abbrev pub invariant-loop-index : goal.invariant-loop-index
+invariant-loop-index g l =
+    let laid = flat_map g.K.Recorded.records.written (take l.index l.items) in
+    record {
+      size : length laid ≡ 16 * l.index;
+      is : l.content ≡ laid ++ zeros (496 - 16 * l.index);
+    }

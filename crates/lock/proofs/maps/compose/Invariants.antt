@@ -1,6 +1,6 @@
-use Rattle.std.proofs.Common.{◌≡◌, ◌-◌, ◌≤◌}
+use Rattle.std.proofs.Common.{◌≡◌, ◌-◌}
 use Rattle.lock.specs.Maps.{packed_from, through}
 use Rattle.lock.proofs.maps.compose.Given as goal
 
-abbrev pub invariant-loop-i : goal.invariant-loop-i
-invariant-loop-i l = (l.i ≤ 8) × (l.map ≡ packed_from (through l.earlier l.later) (8 - l.i) l.i)
+abbrev pub invariant-loop-state : goal.invariant-loop-state
+invariant-loop-state l = l.map ≡ packed_from (through l.earlier l.later) l.state (8 - l.state)

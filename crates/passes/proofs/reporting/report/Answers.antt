@@ -1,27 +1,35 @@
-use Rattle.std.proofs.Common.{string_bytes, decimal, refl, subst}
-use lib.Utf8.{encode}
-use Rattle.recordings.specs.Hand.{at_hand}
-use Rattle.recordings.specs.Opening.{BeginsBehindNotes}
-use Rattle.passes.proofs.Told.{told_kind, told_fault, told_nothing}
+use Rattle.std.proofs.Common.{Ok, string_bytes, ap, ◌∙◌}
+use Rattle.recordings.specs.Hand.{at_hand, read_count, unread}
+use Rattle.passes.proofs.Behind.{begun, told_kind, told_kind_all, told_nothing, told_nothing_all, told_error, told_error_all}
 use Rattle.passes.proofs.reporting.report.Goals as goal
 
-pub returns-in-Data : goal.returns-in-Data
-returns-in-Data g c =
-    let hand = at_hand c.open_pass.new.blocks in
-    let begun = subst (BeginsBehindNotes hand) c.in-Data.is c.in_ok-letter.ensures.begins in
-    told_kind begun.0 hand c.in-Data.letter c.in-Data.index string_bytes c.report_letter.result
-    begun.1.0 begun.1.1.0 begun.1.1.1 c.report_letter.ensures
+pub returns-in-Ok-Some : goal.returns-in-Ok-Some
+returns-in-Ok-Some g c =
+    let new = c.new-blocks.ensures in
+    let opened = c.open_pass.ensures in
+    let began = begun _ (read_count c.open_pass.new.blocks) (at_hand c.open_pass.new.blocks) _ _ (unread g.R.Read.remaining c.open_pass.new.blocks) _ _
+    new.uncounted new.unread (c.in-Ok-Some.is ∙ ap Ok c.in-Ok-Some.field-0-is) opened.begins opened.known in
+    record {
+      told = told_kind c.in-Ok-Some.letter string_bytes c.report_letter.result began c.report_letter.ensures;
+      known = told_kind_all c.in-Ok-Some.letter string_bytes c.report_letter.result began c.report_letter.ensures;
+    }
 
-pub returns-in_ok-fault_text-in-Fault : goal.returns-in_ok-fault_text-in-Fault
-returns-in_ok-fault_text-in-Fault g c =
-    let hand = at_hand c.open_pass.new.blocks in
-    let begun = subst (BeginsBehindNotes hand) c.in-Fault.is c.in_ok-letter.ensures.begins in
-    told_fault begun.0 hand (string_bytes c.in_ok-fault_text-in-Fault.field-0) c.in-Fault.fault begun.1.1.0
-    begun.1.0 begun.1.1.1.0 begun.1.1.1.1 c.in_ok-fault_text-in-Fault.ensures
+pub returns-in_ok-empty_text-in-Ok-None : goal.returns-in_ok-empty_text-in-Ok-None
+returns-in_ok-empty_text-in-Ok-None g c =
+    let new = c.new-blocks.ensures in
+    let opened = c.open_pass.ensures in
+    let began = begun _ (read_count c.open_pass.new.blocks) (at_hand c.open_pass.new.blocks) _ _ (unread g.R.Read.remaining c.open_pass.new.blocks) _ _
+    new.uncounted new.unread (c.in-Ok-None.is ∙ ap Ok c.in-Ok-None.field-0-is) opened.begins opened.known in
+    let text = string_bytes c.in_ok-empty_text-in-Ok-None.field-0 in
+    record { told = told_nothing text began c.in_ok-empty_text-in-Ok-None.ensures; known = told_nothing_all text began c.in_ok-empty_text-in-Ok-None.ensures }
 
-pub returns-in-Nothing : goal.returns-in-Nothing
-unfolding encode
-returns-in-Nothing g c =
-    let hand = at_hand c.open_pass.new.blocks in
-    let begun = subst (BeginsBehindNotes hand) c.in-Nothing.is c.in_ok-letter.ensures.begins in
-    told_nothing begun.0 string_bytes c.pass_text.result begun.1.0 (c.pass_text.ensures decimal (λ d. refl))
+pub returns-in-Err : goal.returns-in-Err
+returns-in-Err g c =
+    let new = c.new-blocks.ensures in
+    let opened = c.open_pass.ensures in
+    let began = begun _ (read_count c.open_pass.new.blocks) (at_hand c.open_pass.new.blocks) _ _ (unread g.R.Read.remaining c.open_pass.new.blocks) _ _
+    new.uncounted new.unread c.in-Err.is opened.begins opened.known in
+    record {
+      told = told_error c.in-Err.error string_bytes c.error_text.result began c.error_text.ensures;
+      known = told_error_all c.in-Err.error string_bytes c.error_text.result began c.error_text.ensures;
+    }

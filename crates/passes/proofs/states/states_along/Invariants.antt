@@ -1,10 +1,6 @@
-use Rattle.std.proofs.Common.{◌≡◌, take, vec_items}
-use Rattle.run.specs.Serving.{Tells}
-use Rattle.traces.specs.Traces.{states_along}
+use Rattle.std.proofs.Common.{◌-◌, vec_items}
+use Rattle.passes.proofs.Along.{AlongFirst}
 use Rattle.passes.proofs.states.states_along.Given as goal
 
-abbrev pub invariant-loop-position : goal.invariant-loop-position
-invariant-loop-position g l =
-    let k = g.K.Station.rules in
-    Tells g.K.Summary.joins k l.run
-    (λ t. k.is_state l.start → vec_items l.states ≡ states_along k l.start (take l.position t.entries))
+abbrev pub invariant-loop-count : goal.invariant-loop-count
+invariant-loop-count g l = AlongFirst g.K.Summary.joins g.K.Station.rules l.run l.start (l.count - 1) (vec_items l.states)

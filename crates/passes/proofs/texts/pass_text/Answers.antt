@@ -1,12 +1,8 @@
-use Rattle.std.proofs.Common.{length, string_bytes, codes, sym, arith}
-use lib.Utf8.{encode}
-use Rattle.std.proofs.lemmas.List.{append-nil}
+use Rattle.std.proofs.Common.{length, string_bytes, codes, arith}
+use Rattle.station.specs.Letters.{letter_text}
 use Rattle.passes.specs.Texts.{head_text}
 use Rattle.passes.proofs.Lines.{lines_turn, lines_end}
 use Rattle.passes.proofs.texts.pass_text.Goals as goal
-
-pub loop-position-init : goal.loop-position-init
-loop-position-init g c = (omega arith, λ text_of shown. sym (append-nil _))
 
 pub loop-position-preserved : goal.loop-position-preserved
 loop-position-preserved g c = (
@@ -22,7 +18,7 @@ loop-position-preserved g c = (
 pub returns : goal.returns
 returns g c text_of shown =
     let ds = c.args.states.now in
-    lines_end text_of ds c.loop-position.position (head_text (encode c.args.letter) (length ds)) (codes "END\n")
+    lines_end text_of ds c.loop-position.position (head_text (letter_text c.args.letter) (length ds)) (codes "END\n")
     (string_bytes c.in_ok-text.text) (string_bytes c.loop-position.text) (string_bytes c.push_str.new.self)
     c.loop-position-test.false c.in_ok-text.ensures (c.loop-position.invariant.1 text_of shown)
     c.in_ok-push_str.ensures.bytes

@@ -1,29 +1,20 @@
-use Rattle.std.proofs.Common.{◌≡◌, suc, ◌*◌, ◌^◌, ◌≤◌, inl, inr, pow-suc, arith}
-use Rattle.tree.proofs.Capacities.{half, few_cells, one_room, is_capacity}
+use Rattle.std.proofs.Common.{arith}
+use Rattle.std.proofs.Math.Pow.{pow-lt}
+use Rattle.tree.proofs.Capacities.{few_cells, power_room, is_capacity}
 use Rattle.tree.proofs.capacity.capacity_of.Goals as goal
 
-pub loop-places-preserved : goal.loop-places-preserved
-loop-places-preserved c =
-    let l = c.loop-places in
-    let k = l.invariant.0.0 in
-    let is : l.places ≡ 2 ^ k = l.invariant.0.1 in
-    let small : 2 * 2 ^ k ≤ 2 ^ 12 = half k 12 (omega (arith, c.loop-places-test.true)) in
-    ((suc k, omega (arith, pow-suc 2 k)), omega arith, omega arith)
+pub returns-in-Some : goal.returns-in-Some
+returns-in-Some c =
+    let k = c.in-Some.power in
+    let bound = c.in-Some.ensures.bound in
+    let small = pow-lt {i = k} {j = 64} bound in
+    let fit = c.in-Some.ensures.power_le in
+    let next = c.in-Some.ensures.next_power_gt in
+    let found = power_room c.args.cells c.min.result k (omega arith) (omega arith) (omega (arith, c.min.ensures)) in
+    record { is = is_capacity c.args.cells c.min.result found; largest = found }
 
-pub returns-then-cells-lt2 : goal.returns-then-cells-lt2
-returns-then-cells-lt2 c =
-    let found = few_cells 4096 c.args.cells c.if-cells-lt2.true in
+pub returns-in-None : goal.returns-in-None
+returns-in-None c =
+    let none = c.in-None.ensures.none in
+    let found = few_cells 4096 c.args.cells (omega arith) in
     record { is = is_capacity c.args.cells 0 found; largest = found }
-
-pub returns-else-places-cells : goal.returns-else-places-cells
-returns-else-places-cells c =
-    let l = c.loop-places in
-    let out = c.if-places-cells.false in
-    let found = one_room c.args.cells l.places l.invariant.0.0 c.if-cells-lt2.false l.invariant.0.1 l.invariant.1 4096 l.invariant.2 (inr (omega arith)) in
-    record { is = is_capacity c.args.cells l.places found; largest = found }
-
-pub returns-after-loop-places : goal.returns-after-loop-places
-returns-after-loop-places c =
-    let l = c.loop-places in
-    let found = one_room c.args.cells l.places l.invariant.0.0 c.if-cells-lt2.false l.invariant.0.1 l.invariant.1 4096 l.invariant.2 (inl c.loop-places-test.false) in
-    record { is = is_capacity c.args.cells l.places found; largest = found }

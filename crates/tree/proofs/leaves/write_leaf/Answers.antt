@@ -1,23 +1,16 @@
-use Rattle.std.proofs.Common.{◌≡◌, ◌*◌, ◌^◌, length, arith}
-use Rattle.std.proofs.lemmas.List.{length-set}
-use Rattle.tree.proofs.Levels.{leaves_depth}
-use Rattle.tree.proofs.Writings.{leaf_written}
+use Rattle.std.proofs.Common.{◌+◌, set, Ok, subst}
+use Rattle.tree.specs.Answers.{placed, Writes}
+use Rattle.tree.proofs.Writings.{above_written, in_place, set_alike}
 use Rattle.tree.proofs.leaves.write_leaf.Goals as goal
 
-pub rejoin-requires : goal.rejoin-requires
-rejoin-requires g c =
-    let n = c.capacity_of-places.result in
-    let largest = c.capacity_of-places.ensures.largest in
-    let held = largest.held in
-    let lt = c.if-place-places.false in
-    let depth = leaves_depth (length c.args.cells.now) n largest (omega arith) in
-    let top : 2 ^ depth.0 ≡ 2 * n = depth.1 in
-    record {
-      held = simp length-set (omega arith);
-      within = omega arith;
-      level = (depth.0, omega arith, omega arith);
-    }
-
 pub returns : goal.returns
-returns g c = leaf_written g.S.Summary.joins c.capacity_of-places.result c.args.place c.args.cells.now c.args.leaf c.rejoin.new.cells
-    c.capacity_of-places.ensures.is c.if-place-places.false c.rejoin.ensures
+returns g c =
+    let j = g.S.Summary.joins in
+    let cells = c.args.cells.now in
+    let place = c.args.place in
+    let at = c.in_ok-at.at in
+    let leaf = c.args.leaf in
+    let fit = placed cells place in
+    let after = c.rejoin.new.cells in
+    subst (λ k. Writes j fit cells (set cells k leaf) after (Ok tt)) c.in_ok-at.ensures.is
+    (above_written j fit at (at + 1) cells (set cells at leaf) after (in_place j cells place c.in_ok-at.ensures.placed) (set_alike j cells at leaf) c.rejoin.ensures)

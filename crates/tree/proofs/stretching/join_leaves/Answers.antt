@@ -1,25 +1,18 @@
-use Rattle.std.proofs.Common.{◌≡◌, ℕ, ◌+◌, ◌-◌, ◌*◌, ◌%◌, ◌<◌, ◌≤◌, length, sym, refl, ap, ◌∙◌, subst, arith}
-use Rattle.station.specs.Laws.{Gives}
+use Rattle.std.proofs.Common.{◌≡◌, ◌+◌, ◌-◌, ◌*◌, ◌%◌, ◌<◌, ◌≤◌, length, sym, refl, arith}
 use Rattle.tree.specs.Answers.{places_of}
-use Rattle.tree.proofs.Rows.{row, Ends, ends_moved, ends_none, ends_front, ends_back, ends_half, ends_all}
-use Rattle.tree.proofs.Writings.{in_range}
+use Rattle.tree.proofs.Rows.{row, Ends, ends_moved, ends_none, ends_front, ends_back, ends_half}
 use Rattle.tree.proofs.stretching.join_leaves.Goals.{then-low-eq1, else-low-eq1, then-high-eq1, else-high-eq1}
 use Rattle.tree.proofs.stretching.join_leaves.Goals as goal
 
 pub loop-low-init : goal.loop-low-init
 loop-low-init g c =
     let cells = c.args.cells.now in
-    let order = c.if-from-to.false in
-    let room = c.if-to-places.false in
-    let is = c.capacity_of-places.ensures.is in
-    let held = c.capacity_of-places.ensures.largest.held in
-    let low = c.capacity_of-places.result + c.args.from in
-    let high = c.capacity_of-places.result + c.args.to in (
+    let are = c.in_ok-leaves.ensures in (
       omega arith,
       omega arith,
       (λ h. omega arith),
       λ t.
-          ends_none g.met.S.Summary.laws (places_of cells) cells (omega arith) t low high c.empty-front.result c.empty-back.result (omega arith) (omega arith)
+          ends_none g.met.S.Summary.laws (places_of cells) cells (omega arith) t c.in_ok-leaves.leaves.start c.in_ok-leaves.leaves.end c.empty-front.result c.empty-back.result (omega arith) (omega arith)
           c.empty-front.ensures c.empty-back.ensures,
     )
 
@@ -29,8 +22,7 @@ loop-low-preserved g c =
     let laws = g.met.S.Summary.laws in
     let cells = c.args.cells.now in
     let n = places_of cells in
-    let is = c.capacity_of-places.ensures.is in
-    let held = c.capacity_of-places.ensures.largest.held in
+    let are = c.in_ok-leaves.ensures in
     let l = c.loop-low in
     let a = c.if-low-eq1 in
     let b = c.if-high-eq1 in
@@ -38,8 +30,8 @@ loop-low-preserved g c =
     let top = l.invariant.1 in
     let pos : 0 < l.low = l.invariant.2 (omega arith) in
     let long : 2 * n ≤ length cells = omega arith in
-    let places = c.capacity_of-places.result in
-    let all = row j cells (places + c.args.from) (places + c.args.to - (places + c.args.from)) in
+    let first = c.in_ok-leaves.leaves.start in
+    let all = row j cells first (c.in_ok-leaves.leaves.end - first) in
     let low_even : (a.low % 2 ≡ 0) × (a.low ≤ l.high) × (l.low ≤ a.low) = elim a.branch [ then-low-eq1 w ↦ (omega arith, omega arith, omega arith) | else-low-eq1 w ↦ (omega arith, omega arith, omega arith) ] in
     let high_even : (b.high % 2 ≡ 0) × (a.low ≤ b.high) × (b.high ≤ l.high) = elim b.branch [ then-high-eq1 w ↦ (omega arith, omega arith, omega arith) | else-high-eq1 w ↦ (omega arith, omega arith, omega arith) ] in (
       omega arith,
@@ -49,40 +41,13 @@ loop-low-preserved g c =
           let s0 = l.invariant.3 t in
           let s1 : Ends j cells a.low l.high a.front l.back all = elim a.branch [
             | then-low-eq1 w ↦ ends_moved j cells (l.low + 1) a.low l.high l.high (sym w.low-is) refl (sym w.front-is) refl
-                (ends_front laws n cells long t l.low l.high l.front l.back all w.index-cells-low.result w.join-front.result lt top w.index-cells-low.is w.join-front.ensures s0)
+                (ends_front laws n cells long t l.low l.high l.front l.back all w.index-cells-low.result w.join-front.result lt (omega arith) w.index-cells-low.is w.join-front.ensures s0)
             | else-low-eq1 w ↦ ends_moved j cells l.low a.low l.high l.high (sym w.low-is) refl (sym w.front-is) refl s0
           ] in
           let s2 : Ends j cells a.low b.high a.front b.back all = elim b.branch [
             | then-high-eq1 w ↦ ends_moved j cells a.low a.low (l.high - 1) b.high refl (sym w.high-is) refl (sym w.back-is)
-                (ends_back laws n cells long t a.low l.high a.front l.back all w.index-cells-high.result w.join-back.result (omega arith) top w.index-cells-high.is w.join-back.ensures s1)
+                (ends_back laws n cells long t a.low l.high a.front l.back all w.index-cells-high.result w.join-back.result (omega arith) (omega arith) w.index-cells-high.is w.join-back.ensures s1)
             | else-high-eq1 w ↦ ends_moved j cells a.low a.low l.high b.high refl (sym w.high-is) refl (sym w.back-is) s1
           ] in
           ends_half laws n cells long t a.low b.high a.front b.back all low_even.0 high_even.0 (omega arith) high_even.1 (omega arith) s2,
     )
-
-pub returns : goal.returns
-returns g c =
-    let j = g.S.Summary.joins in
-    let cells = c.args.cells.now in
-    let from = c.args.from in
-    let to = c.args.to in
-    let n = c.capacity_of-places.result in
-    let is : n ≡ places_of cells = c.capacity_of-places.ensures.is in
-    let held = c.capacity_of-places.ensures.largest.held in
-    let order = c.if-from-to.false in
-    let room = c.if-to-places.false in
-    let inside = in_range j cells from to order (omega arith) in
-    let l = c.loop-low in
-    let size : n + to - (n + from) ≡ to - from = omega arith in
-    let same : row j cells (n + from) (n + to - (n + from)) ≡ row j cells (places_of cells + from) (to - from) =
-    ap (row j cells (n + from)) size ∙ ap (λ m. row j cells (m + from) (to - from)) is in
-    record {
-      refused = λ no. let z : ◌≡◌ {A = ℕ} 0 1 = cc in absurd (omega arith);
-      granted = λ h. (
-        c.join.result,
-        refl,
-        λ t.
-            subst (λ v. Gives j.is_summary v c.join.result) same
-            (ends_all g.met.S.Summary.laws (places_of cells) cells (omega arith) t l.low l.high l.front l.back _ c.join.result c.loop-low-test.false c.join.ensures (l.invariant.3 t)),
-      );
-    }

@@ -10,14 +10,11 @@ returns g c =
     let j = g.S.Summary.joins in
     let cells = c.args.cells.now in
     let place = c.args.place in
-    let n = c.capacity_of-places.result in
-    let is : n ≡ places_of cells = c.capacity_of-places.ensures.is in
-    let held = c.capacity_of-places.ensures.largest.held in
-    let lt = c.if-place-places.false in
-    let kept = c.index-cells-places.result in
+    let at = c.in_ok-at.ensures in
+    let kept = c.index-cells-at.result in
     let leaf = c.args.leaf in
     let read : kept ≡ cell j cells (places_of cells + place) =
-    get_or_read cells (n + place) kept (omega arith) c.index-cells-places.is j.empty ∙ ap (λ m. cell j cells (m + place)) is in
-    first_written j place cells kept leaf _ c.write_leaf.new.cells c.write_leaf.result (omega arith)
+    get_or_read cells c.in_ok-at.at kept (omega arith) c.index-cells-at.is j.empty ∙ ap (cell j cells) at.is in
+    first_written j place cells kept leaf _ c.write_leaf.new.cells c.write_leaf.result at.placed
     (λ t. subst j.is_summary (sym read) (t.counts (places_of cells + place) (omega arith)))
     (ap (λ x. set (set cells 0 x) (places_of cells + place) leaf) read) c.write_leaf.ensures

@@ -17,12 +17,12 @@ returns-then-is_none g c = record {
       let t = after g.K.Summary.joins g.K.Station.rules (terms_of given number records) calls in
       served_refused (Keep shown) (Refused NothingToSettle)
       (unsettled t.tried run number shown _ met.trying met.numbered (sym c.tried_by.ensures ∙ is_nothing c.tried_by.result c.if-is_none.ensures)) met;
-  refused = (refl, refl);
+  keeps = record { refused = refl; same = refl };
+  ticket = refl;
   settles = λ s.
       let found = found_by s in
       let nothing : Some s.place ≡ None = sym found ∙ sym c.tried_by.ensures ∙ is_nothing c.tried_by.result c.if-is_none.ensures in
       absurd (both_ways true (ap is_some nothing) refl);
-  same = refl;
 }
 
 pub returns : goal.returns
@@ -47,7 +47,7 @@ returns g c = record {
       served_granted (Keep shown) Done (trace es None) (settles (λ p. Grant Done (trace es None)) s)
       (stands_as met (trace es None) _ refl refl size within met.items tt
       (leaf_kept laws steps agree (cells_were met) es refl (omega arith) c.release_leaf.ensures));
-  refused = tt;
+  keeps = record { refused = tt; same = refl };
+  ticket = tt;
   settles = λ _. refl;
-  same = refl;
 }

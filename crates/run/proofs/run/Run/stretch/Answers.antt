@@ -12,15 +12,15 @@ use Rattle.run.proofs.Outcomes.{served_refused, served_granted}
 use Rattle.run.proofs.Steps.{stretch_is, and_shut, and_shut_behind}
 use Rattle.run.proofs.run.Run.stretch.Goals as goal
 
-pub returns-then-to-self : goal.returns-then-to-self
-returns-then-to-self g c = record {
+pub returns-then-entries-self : goal.returns-then-entries-self
+returns-then-entries-self g c = record {
   serves = λ records given number calls met counts.
       let t = after g.K.Summary.joins g.K.Station.rules (terms_of given number records) calls in
       let size = met.counted in
-      let from = c.args.from in
-      let to = c.args.to in
+      let from = c.args.entries.start in
+      let to = c.args.entries.end in
       served_refused (AskStretch from to) (Refused NoSuchPosition)
-      (cond-false _ _ _ (and_shut_behind (leb from to) (leb to (length t.entries)) (lt-leb to (length t.entries) (omega (arith, c.if-to-self.true))))) met;
+      (cond-false _ _ _ (and_shut_behind (leb from to) (leb to (length t.entries)) (lt-leb to (length t.entries) (omega (arith, c.if-entries-self.true))))) met;
   replays = λ records given number calls met. tt;
 }
 
@@ -31,15 +31,15 @@ returns g c =
     let laws = g.met.K.Summary.laws in
     let steps = g.met.K.Station.steps in
     let agree = g.met.K.Station.agreement in
-    let from = c.args.from in
-    let to = c.args.to in
+    let from = c.args.entries.start in
+    let to = c.args.entries.end in
     let r = c.join_leaves.result in
     record {
       serves = λ records given number calls met counts.
           let t = after j k (terms_of given number records) calls in
           let n = length t.entries in
           let size = met.counted in
-          let le : to ≤ n = omega (arith, c.if-to-self.false) in
+          let le : to ≤ n = omega (arith, c.if-entries-self.false) in
           elim (stretch_is met from to r le c.join_leaves.ensures) [
             | inl p ↦ served_granted (AskStretch from to) (answer_by SummaryIs r) t
                 (cond-true _ _ _ (and_from (leb from to) (leb to n) (le-leb from to p.0) (le-leb to n le)) ∙ ap (λ x. Grant (answer_by SummaryIs x) t) (sym p.1)) met
@@ -49,7 +49,7 @@ returns g c =
       replays = λ records given number calls met.
           let t = after j k (terms_of given number records) calls in
           let size = met.counted in
-          let le : to ≤ length t.entries = omega (arith, c.if-to-self.false) in
+          let le : to ≤ length t.entries = omega (arith, c.if-entries-self.false) in
           let all = All-take (EntryCounts k) (to - from) (drop from t.entries) (All-drop (EntryCounts k) from t.entries met.items) in
           elim (stretch_is met from to r le c.join_leaves.ensures) [
             | inl p ↦ subst (λ x. StretchReplays k from to x t) (sym p.1) (λ d h. piece_effect laws steps agree (piece t.entries from to) d h all)

@@ -1,17 +1,15 @@
-use Rattle.std.proofs.Common.{ltb, length, set, None, sym, refl, ap, ◌∙◌, subst, arith, is_some, true, Some, ◌≡◌}
+use Rattle.std.proofs.Common.{length, set, None, sym, refl, ap, ◌∙◌, subst, arith, is_some, true, Some, ◌≡◌}
 use Rattle.std.proofs.ByRecursion.{All-set}
 use Rattle.std.proofs.lemmas.List.{length-set}
-use Rattle.std.proofs.lemmas.Bool.{lt-ltb, both_ways}
+use Rattle.std.proofs.lemmas.Bool.{both_ways}
 use Rattle.station.specs.declared.refusals.Refusal.TheVariants.{NothingToSettle}
 use Rattle.traces.specs.Traces.{EntryCounts}
-use borrow.Rule.Slice.Mut.{set_vals}
-use Rattle.tree.specs.Answers.{places_of}
 use Rattle.run.specs.Calls.{TakeBack, Done, Refused}
 use Rattle.run.specs.Rules.{Grant, after, trace}
 use Rattle.run.specs.Standing.{TrialCounts, terms_of}
 use Rattle.run.proofs.Outcomes.{served_refused, served_granted, unsettled, settling, settles, found_by}
 use Rattle.run.proofs.CellSteps.{leaf_restored}
-use Rattle.run.proofs.Steps.{cells_were, within_were, stands_as, refused_by}
+use Rattle.run.proofs.Steps.{cells_were, within_were, stands_as}
 use Rattle.run.proofs.run.Run.take_back.Goals as goal
 
 pub returns-in_default : goal.returns-in_default
@@ -22,37 +20,13 @@ returns-in_default g c = record {
       let t = after g.K.Summary.joins g.K.Station.rules (terms_of given number records) calls in
       served_refused (TakeBack shown) (Refused NothingToSettle)
       (unsettled t.tried run number shown _ met.trying met.numbered (sym c.tried_by.ensures ∙ c.in_default.is)) met;
-  refused = (refl, refl);
+  keeps = record { refused = refl; same = refl };
+  ticket = refl;
   settles = λ s.
       let found = found_by s in
       let nothing : Some s.place ≡ None = sym found ∙ sym c.tried_by.ensures ∙ c.in_default.is in
       absurd (both_ways true (ap is_some nothing) refl);
-  same = refl;
 }
-
-pub returns-in-Err : goal.returns-in-Err
-returns-in-Err g c =
-    let run = c.args.self.now in
-    let cells = run.cells.now in
-    let i = c.in-Some.position in
-    let no = refused_by (ltb i (places_of cells)) c.restore_leaf.result c.in-Err.refusal c.restore_leaf.ensures.is c.in-Err.is in
-    let left = c.restore_leaf.ensures.refused no.0 in
-    record {
-      serves = λ records given number calls met counts.
-          let t = after g.K.Summary.joins g.K.Station.rules (terms_of given number records) calls in
-          let s = settling t.tried run number c.args.ticket.number i met.trying met.numbered (sym c.tried_by.ensures ∙ c.in-Some.is) in
-          let was = subst (TrialCounts g.K.Station.rules (length t.entries)) s.tried met.trials in
-          let lt = was.0 in
-          let within = within_were met in
-          absurd (both_ways (ltb i (places_of cells)) no.1 (lt-ltb i (places_of cells) (omega arith)));
-      settles = λ s.
-          let same : Some i ≡ Some s.place = sym c.in-Some.is ∙ c.tried_by.ensures ∙ found_by s in
-          let at : i ≡ s.place = cc in
-          let held = s.held in
-          absurd (both_ways (ltb i (places_of cells)) no.1 (lt-ltb i (places_of cells) (omega arith)));
-      refused = (refl, ap (λ xs. record { cells = set_vals xs run.cells; length = run.length; number = run.number; trial = run.trial }) left);
-      same = refl;
-    }
 
 pub returns : goal.returns
 returns g c = record {
@@ -77,7 +51,7 @@ returns g c = record {
       served_granted (TakeBack shown) Done (trace (set es i old) None) (settles (λ p. Grant Done (trace (set es p.place p.old) None)) s)
       (stands_as met (trace (set es i old) None) _ refl refl (size ∙ sym long) (omega arith) (All-set (EntryCounts k) es i old was.1 met.items) tt
       (leaf_restored laws steps agree (cells_were met) old i was.0 within s.tried (c.in_default-restore_leaf.ensures.granted refl) met.items was.1));
-  refused = tt;
+  keeps = record { refused = tt; same = refl };
+  ticket = tt;
   settles = λ _. refl;
-  same = refl;
 }

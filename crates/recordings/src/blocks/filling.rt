@@ -1,0 +1,66 @@
+ghost use Rattle.std.specs.Prelude.{◌≡◌, ◌≢◌, ◌<◌, ◌≤◌, length, take, IfErr, IfOk, OnOk};
+ghost use Rattle.std.specs.IoError.{error_kind};
+ghost use Rattle.std.specs.Io.{ReadsAtMost};
+ghost use Rattle.std.specs.Io.KnownBytes.{Consumes, IsAtEnd, ReadConsumes};
+ghost use Rattle.recordings.specs.Input.{GivesBlock};
+
+use block::BLOCK_SIZE;
+use std::io;
+use std::io::{ErrorKind, Read};
+
+// Nothing says that an input ends, so whoever reads one counts, and gives up with this.
+pub(crate) fn endless() -> io::Error
+    ensures { error_kind result ≡ ErrorKind.TimedOut }
+{
+    io::Error::from(ErrorKind::TimedOut)
+}
+
+// One read, and another where a signal interrupts it.
+fn read_uninterrupted<R: Read>(input: &mut R, bytes: &mut [u8]) -> io::Result<usize>
+    ensures bound { ReadsAtMost result bytes.new }
+    ensures bytes { ReadConsumes (R.remaining input.old) (R.remaining input.new) result bytes.new }
+    ensures retried { IfErr result (λ e. error_kind e ≢ ErrorKind.Interrupted) }
+{
+    for _ in 0..u64::MAX {
+        match input.read(bytes) {
+            Ok(n) => return Ok(n),
+            Err(error) => {
+                if error.kind() != ErrorKind::Interrupted {
+                    return Err(error);
+                }
+            }
+        }
+    }
+    Err(endless())
+}
+
+// Fills bytes from the front as far as the input goes, since a read may give less than it is asked for. Answers how far.
+fn fill<R: Read>(input: &mut R, bytes: &mut [u8]) -> io::Result<usize>
+    ensures within { IfOk result (λ n. n ≤ length bytes.old) }
+    ensures bytes { IfOk result (λ n. Consumes (R.remaining input.old) (R.remaining input.new) (take n bytes.new)) }
+    ensures end { IfOk result (λ n. n < length bytes.old → IsAtEnd (R.remaining input.new)) }
+    ensures retried { IfErr result (λ e. error_kind e ≢ ErrorKind.Interrupted) }
+{
+    let mut filled = 0;
+    while filled < bytes.len() {
+        let n = read_uninterrupted(input, &mut bytes[filled..])?;
+        if n == 0 {
+            break;
+        }
+        filled += n;
+    }
+    Ok(filled)
+}
+
+// Reads the next block of an input in place of another, and answers its length. It is a loop over reads, since what std
+// promises of `read_to_end` behind a `take` leaves open what the input has after it.
+pub(crate) fn read_block<R: Read>(input: &mut R, block: &mut Vec<u8>) -> io::Result<usize>
+    ensures filled { IfOk result (λ n. n ≡ length block.new.items) }
+    ensures next { OnOk result (GivesBlock (R.remaining input.old) (R.remaining input.new) block.new.items) }
+    ensures retried { IfErr result (λ e. error_kind e ≢ ErrorKind.Interrupted) }
+{
+    block.resize(BLOCK_SIZE, 0)?;
+    let filled = fill(input, block)?;
+    block.truncate(filled);
+    Ok(filled)
+}
