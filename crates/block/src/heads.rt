@@ -8,7 +8,8 @@ use crate::layout::{
 use byte_fields::{put_number, read_number};
 use station::{Letter, RECORD_SIZE};
 
-// What the first four bytes announce: so many records of a kind, or so long a text.
+// What the first four bytes announce: so many records of a kind, or so long a text. That it is at most 496 bytes stands in
+// contracts, since an enum has no ghost field.
 #[derive(Clone, Copy)]
 pub(crate) enum Head {
     Data(Letter, usize),

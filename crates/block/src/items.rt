@@ -16,6 +16,7 @@ fn lay_items<K: Recorded>(items: &[K::Item]) -> [u8; CONTENT_SIZE]
     ensures size { length (flat_map K.Recorded.records.written items.now) ≡ 16 * length items.now }
     ensures content { result ≡ flat_map K.Recorded.records.written items.now ++ zeros (496 - 16 * length items.now) }
 {
+    // Of fixed size, since nothing here allocates; how much of it is used follows from the head.
     let mut content = [0u8; CONTENT_SIZE];
     for (index, item) in items.iter().enumerate() {
         put(&mut content, RECORD_SIZE * index, &K::write(*item));
@@ -27,6 +28,7 @@ fn lay_items<K: Recorded>(items: &[K::Item]) -> [u8; CONTENT_SIZE]
 pub fn write_items<K: Recorded>(items: &[K::Item], memory: &mut [u8]) -> Result<(), WriteFault>
     ensures { Writes (items_fit (length items.now)) (held_records K.Recorded.records.letter (flat_map K.Recorded.records.written items.now)) memory.old memory.new result }
 {
+    // As `write_note` begins too: a function that lends the part would be no shorter.
     let size = memory.len();
     let front = memory
         .first_chunk_mut::<BLOCK_SIZE>()

@@ -6,9 +6,9 @@ use station::Refusal;
 use std::test::Fail;
 use tandem::{TandemJob, TandemState};
 
-const CLOCK_END: u64 = 1_099_511_627_775;
+pub const CLOCK_END: u64 = 1_099_511_627_775;
 
-const SERVICE_LIMIT: u32 = 16_777_215;
+pub const SERVICE_LIMIT: u32 = 16_777_215;
 
 #[test]
 fn of_jobs(rt: HostRuntime) -> Result<(), Fail> {

@@ -1,5 +1,6 @@
 //! Each kind's records: at the limits, one beyond, and with a byte that no field fills.
 use crate::bytes::with_byte;
+use crate::limits::{CLOCK_END, SERVICE_LIMIT};
 use buffer::{BufferSummary, Slot};
 use counts::{CountSummary, FrameCount};
 use lock::{LockEvent, LockMap};
@@ -8,10 +9,6 @@ use server::{Job, ServerSummary};
 use station::{Letter, Pair, RecordFault, Recorded};
 use std::test::Fail;
 use tandem::{TandemJob, TandemSummary};
-
-const CLOCK_END: u64 = 1_099_511_627_775;
-
-const SERVICE_LIMIT: u32 = 16_777_215;
 
 // A record with some bytes in front and zeros behind.
 fn record(front: &[u8]) -> [u8; 16] {

@@ -12,7 +12,7 @@ fn written(count: u16) -> Result<[u8; BLOCK_SIZE], Refusal> {
     Ok(block)
 }
 
-// The block with the check that its bytes ask for.
+// The block with the check that its bytes ask for. The tests have the same: no crate of both is for damaging blocks.
 fn mended(block: [u8; BLOCK_SIZE]) -> [u8; BLOCK_SIZE] {
     put_number(block, 508..BLOCK_SIZE, u64::from(check_of(&block)))
 }
@@ -31,6 +31,7 @@ pub fn counts(rt: &HostRuntime) -> anyhow::Result<()> {
     Ok(())
 }
 
+// The handle and a label in three functions that print; a struct of the two would be no plainer.
 fn fault(
     rt: &HostRuntime,
     label: &str,

@@ -26,6 +26,7 @@ fn report_in_pieces(rt: &HostRuntime, name: &str, most: usize) -> anyhow::Result
 }
 
 fn show(rt: &HostRuntime, name: &str) -> anyhow::Result<()> {
+    // Not by `?`: the other cases are still to be shown.
     let Ok(text) = report(rt.alloc(), File::open(rt, name)?) else {
         println!(rt; "# {name}: not read")?;
         return Ok(());

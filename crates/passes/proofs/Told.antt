@@ -12,7 +12,7 @@ use Rattle.run.specs.Serving.{Tells}
 use Rattle.run.specs.Standing.{terms_of}
 use Rattle.run.specs.declared.run.Run.{Run}
 use Rattle.recordings.specs.Input.{blocks_of}
-use Rattle.recordings.specs.Loading.{loads_of, Taken, Broken, LoadedTo, LoadedFrom, LoadedAll}
+use Rattle.recordings.specs.Loading.{loads_of, Taken, Broken, AllTaken, LoadedFrom, LoadedAll}
 use Rattle.passes.specs.Reports.{pass_terms, Report, KindReport, OnAll, Told}
 use Rattle.station.specs.Letters.{letter_text}
 use Rattle.passes.specs.Texts.{pass_text, break_text}
@@ -44,38 +44,38 @@ module _ {S I D : Type 0} (j : Joins S) (k : Rules S I D) (records : Records I) 
   broken_on_all : (f : PassFault) (bytes : List ℕ) → LoadedAll j k given (terms_of given 0 records) read hand (blocks_of bytes) run (Err (Fault f)) → OnAll OnRest (blocks_of bytes) (break_text f)
   broken_on_all f bytes l = OnAll.to_a_fault l.0 l.1.0 f l.1.1.0 (broken_on l.0 f l.1.1.1)
 
-  pub report_broken : {X E : Type 0} (error : PassError) (bytes_of : X → List ℕ) (r : Result X E)
-      → LoadedFrom j k given (terms_of given 0 records) read hand run (Err error)
+  pub report_broken : {X E : Type 0} (now : ℕ) (error : PassError) (bytes_of : X → List ℕ) (r : Result X E)
+      → LoadedFrom j k given (terms_of given 0 records) read now hand run (Err error)
       → IfSome known (λ bytes. LoadedAll j k given (terms_of given 0 records) read hand (blocks_of bytes) run (Err error))
       → IfOk r (λ x. (f : PassFault) × ((error ≡ Fault f) × (bytes_of x ≡ break_text f)))
       → IfOk r (λ x. Told known OnRest (bytes_of x))
-  report_broken error bytes_of r loaded loaded_all =
+  report_broken now error bytes_of r loaded loaded_all =
       let w = terms_of given 0 records in
       made_map _ _ r (λ x told.
-      let l = subst (λ e. LoadedFrom j k given w read hand run (Err e)) told.1.0 loaded in
+      let l = subst (λ e. LoadedFrom j k given w read now hand run (Err e)) told.1.0 loaded in
       let a = subst (λ e. IfSome known (λ bytes. LoadedAll j k given w read hand (blocks_of bytes) run (Err e))) told.1.0 loaded_all in
       subst (Told known OnRest) (sym told.1.1)
-      (record { blocks = l.0; on = broken_on l.0 told.0 l.1; all = if_some known (broken_on_all told.0) a }))
+      (record { blocks = l.0; on = broken_on l.0 told.0 l.1.0; all = if_some known (broken_on_all told.0) a }))
 
-  whole_on : (u : Unit {0}) (states shown : List D) (letter : Letter) (text : List ℕ) (rest : List (List ℕ))
+  whole_on : (states shown : List D) (letter : Letter) (text : List ℕ) (rest : List (List ℕ))
       → Tells j k run (λ t. k.is_state start → states ≡ states_along k start t.entries) → k.is_state start
       → shown ≡ states → letter ≡ records.letter → text ≡ pass_text text_of (letter_text letter) shown
-      → LoadedTo j k given (terms_of given 0 records) read run (Ok u) (hand ∷ rest) → OnRest rest text
-  whole_on u states shown letter text rest along state same lettered told l =
+      → AllTaken j k given (terms_of given 0 records) run (hand ∷ rest) → OnRest rest text
+  whole_on states shown letter text rest along state same lettered told l =
       let bs = hand ∷ rest in
       let entries : shown ≡ states_along k start (after j k (pass_terms records) (loads_of bs)).entries =
       same ∙ along records given 0 (loads_of bs) l.1 state ∙ ap (λ w. states_along k start (after j k w (loads_of bs)).entries) (pass_terms_lem records given cells) in
       subst (OnRest rest) (sym (told ∙ ap (λ l. pass_text text_of (letter_text l) shown) lettered ∙ ap (pass_text text_of (letter_text records.letter)) entries))
       (Report.whole bs (subst (λ w. Taken j k w bs) (pass_terms_lem records given cells) l.0))
 
-  pub report_whole : (u : Unit {0}) (states shown : List D) (letter : Letter) (text : List ℕ)
-      → LoadedFrom j k given (terms_of given 0 records) read hand run (Ok u)
+  pub report_whole : (now : ℕ) (u : Unit {0}) (states shown : List D) (letter : Letter) (text : List ℕ)
+      → LoadedFrom j k given (terms_of given 0 records) read now hand run (Ok u)
       → IfSome known (λ bytes. LoadedAll j k given (terms_of given 0 records) read hand (blocks_of bytes) run (Ok u))
       → Tells j k run (λ t. k.is_state start → states ≡ states_along k start t.entries) → k.is_state start
       → shown ≡ states → letter ≡ records.letter → text ≡ pass_text text_of (letter_text letter) shown
       → Told known OnRest text
-  report_whole u states shown letter text loaded loaded_all along state same lettered told =
-      let whole = λ (rest : List (List ℕ)). whole_on u states shown letter text rest along state same lettered told in
+  report_whole now u states shown letter text loaded loaded_all along state same lettered told =
+      let whole = λ (rest : List (List ℕ)). whole_on states shown letter text rest along state same lettered told in
       record { blocks = loaded.0; on = whole loaded.0 loaded.1; all = if_some known (λ bytes l. OnAll.to_the_end text (whole (blocks_of bytes) l)) loaded_all }
 
 -- from a start that is known

@@ -8,11 +8,13 @@ use Rattle.run.specs.Rules.{Terms, after}
 use Rattle.run.specs.Serving.{ServesBy}
 use Rattle.run.specs.Standing.{Met, Stands, terms_of}
 use Rattle.run.specs.declared.run.Run.{Run}
+use Rattle.std.specs.Prelude.{IsErrAnd}
+use Rattle.std.specs.declared.io.Error.{Error}
 use Rattle.recordings.specs.declared.faults.PassFault.{PassFault}
 use Rattle.recordings.specs.declared.faults.PassError.{PassError}
-use Rattle.recordings.specs.declared.faults.PassError.TheVariants.{Fault}
+use Rattle.recordings.specs.declared.faults.PassError.TheVariants.{Input, Fault}
 use Rattle.recordings.specs.Input.{blocks_of, GivesBlock}
-use Rattle.recordings.specs.Loading.{loads_of, Taken, Broken, LoadedTo, LoadedFrom, LoadedAll}
+use Rattle.recordings.specs.Loading.{loads_of, Taken, Broken, AllTaken, LoadedFrom, LoadedAll}
 use Rattle.recordings.proofs.Cutting.{ReadsBlocks, reads_none, reads_more, reads_all, blocks_left, split_left, if_some}
 
 -- A loop that loads: some blocks are taken, and one is at hand. So many have been read with the first of them, and so many
@@ -56,21 +58,21 @@ module _ {S I D : Type 0} {j : Joins S} {k : Rules S I D} {records : Records I} 
   loaded_rest : {first read n : ℕ} {begun hand : List ℕ} {known left : Option (List ℕ)} {before run : Run S}
       → (l : Loading j k given (terms_of given number records) first begun read hand known left before)
       → ServesBy j k records (Load hand) before run (Loaded n)
-      → LoadedTo j k given (terms_of given number records) first run (Ok tt) (begun ∷ l.rest)
+      → AllTaken j k given (terms_of given number records) run (begun ∷ l.rest)
   loaded_rest {n = n} {hand = hand} {run = run} l serves =
       let w = terms_of given number records in
       let bs = l.blocks in
       let served = serves given number (loads_of bs) l.stands tt in
-      subst (λ xs. Taken j k w xs × Stands j k given w (after j k w (loads_of xs)) run) l.begins (
+      subst (AllTaken j k given w run) l.begins (
         Taken.more bs hand n l.taken (sym served.answer),
         subst (λ calls. Stands j k given w (after j k w calls) run) (sym (map_push Load bs hand)) served.met,
       )
 
-  pub loading_ends : {first read n : ℕ} {begun hand : List ℕ} {known left : Option (List ℕ)} {before run : Run S}
+  pub loading_ends : {first read n : ℕ} {begun hand : List ℕ} {known left : Option (List ℕ)} {before run : Run S} (now : ℕ)
       → Loading j k given (terms_of given number records) first begun read hand known left before
       → ServesBy j k records (Load hand) before run (Loaded n)
-      → LoadedFrom j k given (terms_of given number records) first begun run (Ok tt)
-  loading_ends l serves = (l.rest, loaded_rest l serves)
+      → LoadedFrom j k given (terms_of given number records) first now begun run (Ok tt)
+  loading_ends now l serves = (l.rest, loaded_rest l serves)
 
   pub loading_ends_all : {first read n : ℕ} {begun hand : List ℕ} {known left : Option (List ℕ)} {before run : Run S} (nothing : List ℕ) (after_it : Option (List ℕ))
       → GivesBlock left after_it nothing → length nothing ≡ 0
@@ -78,25 +80,33 @@ module _ {S I D : Type 0} {j : Joins S} {k : Rules S I D} {records : Records I} 
       → ServesBy j k records (Load hand) before run (Loaded n)
       → IfSome known (λ bytes. LoadedAll j k given (terms_of given number records) first begun (blocks_of bytes) run (Ok tt))
   loading_ends_all {first = first} {begun = begun} {known = known} {left = left} {run = run} nothing after_it gives none l serves =
-      if_some known (λ bytes is. subst (λ rest. LoadedTo j k given (terms_of given number records) first run (Ok tt) (begun ∷ rest)) (sym is) (loaded_rest l serves))
+      if_some known (λ bytes is. subst (λ rest. AllTaken j k given (terms_of given number records) run (begun ∷ rest)) (sym is) (loaded_rest l serves))
       (reads_all known left after_it l.rest nothing l.behind gives none)
+
+  -- the input fails behind it
+  pub loading_fails : {first read : ℕ} {begun hand : List ℕ} {known left : Option (List ℕ)} {before : Run S} (now : ℕ) (run : Run S) (e : Error) (r : Result (Unit {0}) PassError)
+      → Loading j k given (terms_of given number records) first begun read hand known left before
+      → IsErrAnd r (λ x. x ≡ Input e) → LoadedFrom j k given (terms_of given number records) first now begun run r
+  loading_fails now run e (Ok u) l h = absurd h
+  loading_fails {first = first} {begun = begun} now run e (Err x) l h =
+      subst (λ y. LoadedFrom j k given (terms_of given number records) first now begun run (Err y)) (sym h) ([], tt)
 
   -- it is refused
   broken_at : {first read : ℕ} {begun hand : List ℕ} {known left : Option (List ℕ)} {before run : Run S} (f : PassFault)
       → (l : Loading j k given (terms_of given number records) first begun read hand known left before)
       → ServesBy j k records (Load hand) before run (NotLoaded f.fault) → f.index ≡ read - 1
-      → Broken j k (terms_of given number records) first f (begun ∷ l.rest)
+      → (b : Broken j k (terms_of given number records) first f (begun ∷ l.rest)) × (read ≡ first + length b.front)
   broken_at {hand = hand} f l serves at =
       let bs = l.blocks in
       let served = serves given number (loads_of bs) l.stands tt in
-      record { front = bs; last = hand; are = sym l.begins; taken = l.taken; refused = sym served.answer; at = at ∙ ap (λ n. n - 1) l.counted }
+      (record { front = bs; last = hand; are = sym l.begins; taken = l.taken; refused = sym served.answer; at = at ∙ ap (λ n. n - 1) l.counted }, l.counted)
 
   pub loading_breaks : {first read : ℕ} {begun hand : List ℕ} {known left : Option (List ℕ)} {before run : Run S} (f : PassFault) (r : Result (Unit {0}) PassError)
       → Loading j k given (terms_of given number records) first begun read hand known left before
       → ServesBy j k records (Load hand) before run (NotLoaded f.fault) → f.index ≡ read - 1 → r ≡ Err (Fault f)
-      → LoadedFrom j k given (terms_of given number records) first begun run r
-  loading_breaks {first = first} {begun = begun} {run = run} f r l serves at passed =
-      subst (LoadedFrom j k given (terms_of given number records) first begun run) (sym passed) (l.rest, broken_at f l serves at)
+      → LoadedFrom j k given (terms_of given number records) first read begun run r
+  loading_breaks {first = first} {read = read} {begun = begun} {run = run} f r l serves at passed =
+      subst (LoadedFrom j k given (terms_of given number records) first read begun run) (sym passed) (l.rest, broken_at f l serves at)
 
   pub loading_breaks_all : {first read : ℕ} {begun hand : List ℕ} {known left : Option (List ℕ)} {before run : Run S} (f : PassFault) (r : Result (Unit {0}) PassError)
       → Loading j k given (terms_of given number records) first begun read hand known left before
@@ -104,4 +114,4 @@ module _ {S I D : Type 0} {j : Joins S} {k : Rules S I D} {records : Records I} 
       → IfSome known (λ bytes. LoadedAll j k given (terms_of given number records) first begun (blocks_of bytes) run r)
   loading_breaks_all {first = first} {begun = begun} {known = known} {left = left} {run = run} f r l serves at passed =
       if_some known (λ bytes is. subst (LoadedAll j k given (terms_of given number records) first begun (blocks_of bytes) run) (sym passed)
-      (l.rest, (blocks_left left, (split_left (blocks_of bytes) l.rest left is, broken_at f l serves at)))) l.behind
+      (l.rest, (blocks_left left, (split_left (blocks_of bytes) l.rest left is, (broken_at f l serves at).0)))) l.behind

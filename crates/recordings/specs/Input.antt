@@ -1,5 +1,8 @@
 -- The blocks of an input.
-use Rattle.std.specs.Prelude.{◌≡◌, ℕ, zero, suc, List, [], ◌∷◌, ◌++◌, length, take, drop, Some, None, Option}
+use Rattle.std.specs.Prelude.{◌≡◌, ℕ, zero, suc, List, [], ◌∷◌, ◌++◌, length, take, drop, Some, None, Option, Result, IfErr, ◌≢◌}
+use Rattle.std.specs.IoError.{error_kind}
+use Rattle.std.specs.declared.io.Error.{Error}
+use Rattle.std.specs.declared.io.ErrorKind.TheVariants as kind
 
 -- bytes cut into blocks of 512, so many at most, of which only the last may be short
 abbrev pub blocks_within : ℕ → List ℕ → List (List ℕ)
@@ -21,3 +24,7 @@ GivesBlock (Some bytes) after block = (block ≡ take 512 bytes) × (after ≡ S
 abbrev pub Left : List (List ℕ) → List (List ℕ) → Option (List ℕ) → Type 0
 Left all read None = ⊥
 Left all read (Some bytes) = all ≡ read ++ blocks_of bytes
+
+-- an answer that is no interruption
+abbrev pub IsUninterrupted : {X : Type 0} → Result X Error → Type 0
+IsUninterrupted r = IfErr r (λ e. error_kind e ≢ kind.Interrupted)

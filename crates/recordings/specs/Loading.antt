@@ -33,19 +33,24 @@ pub record Broken {S I D : Type 0} (j : Joins S) (k : Rules S I D) (w : Terms I)
   pub refused : answered j k w (loads_of front) (Load last) ≡ NotLoaded f.fault
   pub at : f.index ≡ read + length front - 1
 
--- Blocks that were loaded into a run from its opening on, as far as it takes them.
-abbrev pub LoadedTo : {S I D : Type 0} → Joins S → Rules S I D → List S → Terms I → ℕ → Run S → Result (Unit {0}) PassError → List (List ℕ) → Type 0
-LoadedTo j k given w read run (Ok u) bs = Taken j k w bs × Stands j k given w (after j k w (loads_of bs)) run
-LoadedTo j k given w read run (Err (Fault f)) bs = Broken j k w read f bs
-LoadedTo j k given w read run (Err (Input e)) bs = Unit {0}
+-- Blocks that a run takes from its opening on, all of them, and how it stands then.
+abbrev pub AllTaken : {S I D : Type 0} → Joins S → Rules S I D → List S → Terms I → Run S → List (List ℕ) → Type 0
+AllTaken j k given w run bs = Taken j k w bs × Stands j k given w (after j k w (loads_of bs)) run
+
+-- Blocks that were loaded into a run from its opening on, as far as it takes them. So many have been read with the first of
+-- them, and so many now.
+abbrev pub LoadedTo : {S I D : Type 0} → Joins S → Rules S I D → List S → Terms I → ℕ → ℕ → Run S → Result (Unit {0}) PassError → List (List ℕ) → Type 0
+LoadedTo j k given w read now run (Ok u) bs = AllTaken j k given w run bs
+LoadedTo j k given w read now run (Err (Fault f)) bs = (b : Broken j k w read f bs) × (now ≡ read + length b.front)
+LoadedTo j k given w read now run (Err (Input e)) bs = Unit {0}
 
 -- the same of the block at hand and some behind it
-abbrev pub LoadedFrom : {S I D : Type 0} → Joins S → Rules S I D → List S → Terms I → ℕ → List ℕ → Run S → Result (Unit {0}) PassError → Type 0
-LoadedFrom j k given w read hand run r = (rest : List (List ℕ)) × LoadedTo j k given w read run r (hand ∷ rest)
+abbrev pub LoadedFrom : {S I D : Type 0} → Joins S → Rules S I D → List S → Terms I → ℕ → ℕ → List ℕ → Run S → Result (Unit {0}) PassError → Type 0
+LoadedFrom j k given w read now hand run r = (rest : List (List ℕ)) × LoadedTo j k given w read now run r (hand ∷ rest)
 
 -- The same of the block at hand and all behind it, or those of them up to the first that is refused.
 abbrev pub LoadedAll : {S I D : Type 0} → Joins S → Rules S I D → List S → Terms I → ℕ → List ℕ → List (List ℕ) → Run S → Result (Unit {0}) PassError → Type 0
-LoadedAll j k given w read hand behind run (Ok u) = LoadedTo j k given w read run (Ok u) (hand ∷ behind)
+LoadedAll j k given w read hand behind run (Ok u) = AllTaken j k given w run (hand ∷ behind)
 LoadedAll j k given w read hand behind run (Err (Fault f)) =
     (front : List (List ℕ)) × ((rest : List (List ℕ)) × ((behind ≡ front ++ rest) × Broken j k w read f (hand ∷ front)))
 LoadedAll j k given w read hand behind run (Err (Input e)) = Unit {0}

@@ -32,7 +32,7 @@ pub fn load_all<K: Recorded, R: Read>(
     blocks: &mut Blocks<R>,
     run: &mut Run<'_, K>,
 ) -> Result<(), PassError>
-    ensures loaded { (given : List K) (number : ℕ) → Met K.Summary.joins K.Station.rules K.Recorded.records given number [] run.old → LoadedFrom K.Summary.joins K.Station.rules given (terms_of given number K.Recorded.records) (read_count blocks.old) (at_hand blocks.old) run.new result }
+    ensures loaded { (given : List K) (number : ℕ) → Met K.Summary.joins K.Station.rules K.Recorded.records given number [] run.old → LoadedFrom K.Summary.joins K.Station.rules given (terms_of given number K.Recorded.records) (read_count blocks.old) (read_count blocks.new) (at_hand blocks.old) run.new result }
     ensures numbered { IfFault result (λ at. at.index ≡ number_at_hand blocks.new) }
     ensures known { (given : List K) (number : ℕ) → Met K.Summary.joins K.Station.rules K.Recorded.records given number [] run.old → IfSome (unread R.remaining blocks.old) (λ bytes. LoadedAll K.Summary.joins K.Station.rules given (terms_of given number K.Recorded.records) (read_count blocks.old) (at_hand blocks.old) (blocks_of bytes) run.new result) }
 {

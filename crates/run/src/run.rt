@@ -1,4 +1,5 @@
-// The cells hold the tree of joins over the entries' summaries; cell 0 keeps the old summary while a trial is open.
+// The cells are those that the caller gives, so that nothing here allocates. They hold the tree of joins over the entries'
+// summaries; cell 0 keeps the old summary while a trial is open.
 #[derive(Drop)]
 pub struct Run<'a, K> {
     cells: &'a mut [K],

@@ -8,6 +8,7 @@ fn write_effects<K: Station>(fronts: &[K], start: K::State, memory: &mut [K::Sta
     requires { length fronts.now ≤ length memory.old }
     ensures { Spreads K.Summary.joins K.Station.rules start fronts.now memory.old memory.new }
 {
+    // By number: the memory may have more places than there are prefixes.
     for (k, front) in fronts.iter().enumerate() {
         memory[k] = front.effect(start);
     }

@@ -1,8 +1,8 @@
-ghost use Rattle.std.specs.Prelude.{◌≡◌, ◌≢◌, ◌<◌, ◌≤◌, length, take, IfErr, IfOk, OnOk};
+ghost use Rattle.std.specs.Prelude.{◌≡◌, ◌<◌, ◌≤◌, length, take, IfOk, OnOk, vec_len};
 ghost use Rattle.std.specs.IoError.{error_kind};
 ghost use Rattle.std.specs.Io.{ReadsAtMost};
 ghost use Rattle.std.specs.Io.KnownBytes.{Consumes, IsAtEnd, ReadConsumes};
-ghost use Rattle.recordings.specs.Input.{GivesBlock};
+ghost use Rattle.recordings.specs.Input.{GivesBlock, IsUninterrupted};
 
 use block::BLOCK_SIZE;
 use std::io;
@@ -19,8 +19,9 @@ pub(crate) fn endless() -> io::Error
 fn read_uninterrupted<R: Read>(input: &mut R, bytes: &mut [u8]) -> io::Result<usize>
     ensures bound { ReadsAtMost result bytes.new }
     ensures bytes { ReadConsumes (R.remaining input.old) (R.remaining input.new) result bytes.new }
-    ensures retried { IfErr result (λ e. error_kind e ≢ ErrorKind.Interrupted) }
+    ensures retried { IsUninterrupted result }
 {
+    // Counted, since nothing says that the signals end.
     for _ in 0..u64::MAX {
         match input.read(bytes) {
             Ok(n) => return Ok(n),
@@ -39,9 +40,10 @@ fn fill<R: Read>(input: &mut R, bytes: &mut [u8]) -> io::Result<usize>
     ensures within { IfOk result (λ n. n ≤ length bytes.old) }
     ensures bytes { IfOk result (λ n. Consumes (R.remaining input.old) (R.remaining input.new) (take n bytes.new)) }
     ensures end { IfOk result (λ n. n < length bytes.old → IsAtEnd (R.remaining input.new)) }
-    ensures retried { IfErr result (λ e. error_kind e ≢ ErrorKind.Interrupted) }
+    ensures retried { IsUninterrupted result }
 {
     let mut filled = 0;
+    // A loop over reads: what std promises of `read_to_end` behind a `take` leaves open what the input has after it.
     while filled < bytes.len() {
         let n = read_uninterrupted(input, &mut bytes[filled..])?;
         if n == 0 {
@@ -52,12 +54,12 @@ fn fill<R: Read>(input: &mut R, bytes: &mut [u8]) -> io::Result<usize>
     Ok(filled)
 }
 
-// Reads the next block of an input in place of another, and answers its length. It is a loop over reads, since what std
-// promises of `read_to_end` behind a `take` leaves open what the input has after it.
+// Reads the next block of an input in place of another, and answers its length.
 pub(crate) fn read_block<R: Read>(input: &mut R, block: &mut Vec<u8>) -> io::Result<usize>
     ensures filled { IfOk result (λ n. n ≡ length block.new.items) }
+    ensures within { vec_len block.old ≤ 512 → vec_len block.new ≤ 512 }
     ensures next { OnOk result (GivesBlock (R.remaining input.old) (R.remaining input.new) block.new.items) }
-    ensures retried { IfErr result (λ e. error_kind e ≢ ErrorKind.Interrupted) }
+    ensures retried { IsUninterrupted result }
 {
     block.resize(BLOCK_SIZE, 0)?;
     let filled = fill(input, block)?;

@@ -1,13 +1,12 @@
-ghost use Rattle.std.specs.Prelude.{◌≡◌, ◌≢◌, ◌+◌, ◌<◌, ◌^◌, [], length, IfErr, IfOk, OnOk, nat_lt, if◌then◌else◌};
-ghost use Rattle.std.specs.IoError.{error_kind};
+ghost use Rattle.std.specs.Prelude.{◌≡◌, ◌+◌, ◌<◌, ◌^◌, [], length, IfOk, OnOk, nat_lt, if◌then◌else◌};
 ghost use Rattle.recordings.specs.Hand.{at_hand, number_at_hand, read_count, unread};
-ghost use Rattle.recordings.specs.Input.{GivesBlock};
+ghost use Rattle.recordings.specs.Input.{GivesBlock, IsUninterrupted};
 
 use crate::blocks::Blocks;
 use crate::blocks::filling::{endless, read_block};
 use std::alloc::Global;
 use std::io;
-use std::io::{ErrorKind, Read};
+use std::io::Read;
 
 impl<R: Read> Blocks<R> {
     // In front of the first block.
@@ -29,12 +28,10 @@ impl<R: Read> Blocks<R> {
         ensures more { IfOk result (λ more. more ≡ nat_lt 0 (length (at_hand self.new))) }
         ensures counted { IfOk result (λ more. read_count self.new ≡ (if more then read_count self.old + 1 else read_count self.old)) }
         ensures next { OnOk result (GivesBlock (unread R.remaining self.old) (unread R.remaining self.new) (at_hand self.new)) }
-        ensures retried { IfErr result (λ e. error_kind e ≢ ErrorKind.Interrupted) }
+        ensures retried { IsUninterrupted result }
         ensures countable { IfOk result (λ more. read_count self.new < 2 ^ 64) }
     {
-        let Some(count) = self.count.checked_add(1) else {
-            return Err(endless());
-        };
+        let count = self.count.checked_add(1).ok_or_else(endless)?;
         let filled = read_block(&mut self.input, &mut self.block)?;
         if filled > 0 {
             self.count = count;

@@ -37,11 +37,11 @@ impl<'a, K: Station> Run<'a, K> {
     pub(crate) fn ensure_editable(&self, position: usize) -> Result<(), Refusal>
         ensures { result ≡ unless_uneditable self.now.trial position self.now.length }
     {
-        match self.trial {
-            Some(_) => Err(Refusal::TrialOpen),
-            None if position >= self.length => Err(Refusal::NoSuchPosition),
-            None => Ok(()),
+        self.ensure_settled()?;
+        if position >= self.length {
+            return Err(Refusal::NoSuchPosition);
         }
+        Ok(())
     }
 
     // The place that is tried, if a trial is open and this ticket settles it.

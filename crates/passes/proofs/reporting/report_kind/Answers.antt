@@ -6,7 +6,7 @@ use Rattle.passes.proofs.reporting.report_kind.Goals as goal
 pub returns-in-Ok : goal.returns-in-Ok
 returns-in-Ok g c text_of shown state =
     report_whole g.K.Summary.joins g.K.Station.rules g.K.Recorded.records c.deref_mut.result.now (c.deref_mut.ensures.len ∙ c.in_ok-cells.ensures.len)
-    c.args.start text_of (read_count c.args.blocks) (at_hand c.args.blocks) (unread g.R.Read.remaining c.args.blocks) c.load_all.new.run c.in-Ok.field-0
+    c.args.start text_of (read_count c.args.blocks) (at_hand c.args.blocks) (unread g.R.Read.remaining c.args.blocks) c.load_all.new.run (read_count c.load_all.new.blocks) c.in-Ok.field-0
     (vec_items c.in_ok-states-in-Ok.states) c.deref.result.now c.letter.result (string_bytes c.in_ok-pass_text-in-Ok.field-0)
     (c.in-Ok.ensures.loaded c.deref_mut.result.now 0 (c.open-run.ensures.met g.K.Recorded.records))
     (c.in-Ok.ensures.known c.deref_mut.result.now 0 (c.open-run.ensures.met g.K.Recorded.records))
@@ -15,7 +15,7 @@ returns-in-Ok g c text_of shown state =
 pub returns : goal.returns
 returns g c text_of shown state =
     report_broken g.K.Summary.joins g.K.Station.rules g.K.Recorded.records c.deref_mut.result.now (c.deref_mut.ensures.len ∙ c.in_ok-cells.ensures.len)
-    c.args.start text_of (read_count c.args.blocks) (at_hand c.args.blocks) (unread g.R.Read.remaining c.args.blocks) c.load_all.new.run c.in-Err.error string_bytes c.error_text.result
+    c.args.start text_of (read_count c.args.blocks) (at_hand c.args.blocks) (unread g.R.Read.remaining c.args.blocks) c.load_all.new.run (read_count c.load_all.new.blocks) c.in-Err.error string_bytes c.error_text.result
     (c.in-Err.ensures.loaded c.deref_mut.result.now 0 (c.open-run.ensures.met g.K.Recorded.records))
     (c.in-Err.ensures.known c.deref_mut.result.now 0 (c.open-run.ensures.met g.K.Recorded.records))
     c.error_text.ensures

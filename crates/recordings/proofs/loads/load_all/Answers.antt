@@ -1,7 +1,7 @@
 use Rattle.recordings.specs.Hand.{at_hand, read_count, unread}
 use Rattle.recordings.proofs.Counts.{one_more, no_more}
 use Rattle.recordings.proofs.Passing.{passed_up}
-use Rattle.recordings.proofs.Loading.{loading_starts, loading_turn, loading_ends, loading_ends_all, loading_breaks, loading_breaks_all}
+use Rattle.recordings.proofs.Loading.{loading_starts, loading_turn, loading_ends, loading_ends_all, loading_fails, loading_breaks, loading_breaks_all}
 use Rattle.recordings.proofs.loads.load_all.Goals as goal
 
 pub loop-blocks-init : goal.loop-blocks-init
@@ -28,7 +28,7 @@ returns-in_err-load_at_hand-clause-known g c given number met =
     loading_breaks_all fault _ (c.loop-blocks.invariant given number met) refused.serves refused.numbered (passed_up _ fault c.from_residual.ensures.1)
 
 pub returns-then-not-branch-clause-loaded : goal.returns-then-not-branch-clause-loaded
-returns-then-not-branch-clause-loaded g c given number met = loading_ends (c.loop-blocks.invariant given number met) c.in_ok-load_at_hand.ensures.serves
+returns-then-not-branch-clause-loaded g c given number met = loading_ends (read_count c.advance.new.self) (c.loop-blocks.invariant given number met) c.in_ok-load_at_hand.ensures.serves
 
 pub returns-then-not-branch-clause-known : goal.returns-then-not-branch-clause-known
 returns-then-not-branch-clause-known g c given number met =
@@ -36,3 +36,7 @@ returns-then-not-branch-clause-known g c given number met =
     let hand = at_hand c.advance.new.self in
     let none = no_more _ (read_count c.loop-blocks.blocks) (read_count c.advance.new.self) hand next.more next.counted c.if-not-branch.true in
     loading_ends_all hand (unread g.R.Read.remaining c.advance.new.self) next.next none.1 (c.loop-blocks.invariant given number met) c.in_ok-load_at_hand.ensures.serves
+
+pub returns-in_err-advance-clause-loaded : goal.returns-in_err-advance-clause-loaded
+returns-in_err-advance-clause-loaded g c given number met =
+    loading_fails (read_count c.advance.new.self) c.load_at_hand.new.run _ _ (c.loop-blocks.invariant given number met) c.from_residual-in_err-advance.ensures.1
