@@ -23,6 +23,7 @@ pub fn write_number(number: u64, field: &mut [u8])
     ensures is { field.new ≡ digits (length field.old) number }
     ensures back { number < 256 ^ length field.old → numeral field.new ≡ number }
 {
+    // Digit by digit, since a field may be wider than the bytes of a number.
     let mut rest = number;
     for place in field.iter_mut() {
         *place = (rest % 256) as u8;

@@ -141,28 +141,25 @@ fn writers_refuse(rt: HostRuntime) -> Result<(), Fail> {
     Ok(())
 }
 
+fn of_reader(fault: BlockFault) -> (u8, usize) {
+    (Refusal::from(fault).number(), fault.place())
+}
+
+fn of_writer(fault: WriteFault) -> (u8, usize) {
+    (Refusal::from(fault).number(), fault.place())
+}
+
 #[test]
 fn numbers_and_places(rt: HostRuntime) {
     let table = [
-        (BlockFault::Length(3), 7, 3),
-        (BlockFault::Check, 8, 508),
-        (BlockFault::Layout(4), 9, 4),
+        (of_reader(BlockFault::Length(3)), (7, 3)),
+        (of_reader(BlockFault::Check), (8, 508)),
+        (of_reader(BlockFault::Layout(4)), (9, 4)),
+        (of_writer(WriteFault::Memory(0)), (11, 0)),
+        (of_writer(WriteFault::Items), (9, 1)),
+        (of_writer(WriteFault::Text), (9, 2)),
     ];
-    for (fault, number, place) in table {
-        assert_eq!(rt;
-            (Refusal::from(fault).number(), fault.place()),
-            (number, place)
-        );
-    }
-    let table = [
-        (WriteFault::Memory(0), 11, 0),
-        (WriteFault::Items, 9, 1),
-        (WriteFault::Text, 9, 2),
-    ];
-    for (fault, number, place) in table {
-        assert_eq!(rt;
-            (Refusal::from(fault).number(), fault.place()),
-            (number, place)
-        );
+    for (said, wanted) in table {
+        assert_eq!(rt; said, wanted);
     }
 }

@@ -55,7 +55,7 @@ impl Default for CountState {
     fn default() -> CountState {
         CountState {
             last: None,
-            tallies: Tallies::none(),
+            tallies: Tallies::default(),
         }
     }
 }

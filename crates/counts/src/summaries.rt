@@ -99,7 +99,7 @@ impl Station for CountSummary {
             span: Some(Span {
                 first: item.count,
                 last: item.count,
-                tallies: Tallies::none(),
+                tallies: Tallies::default(),
             }),
         }
     }

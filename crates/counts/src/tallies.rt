@@ -1,5 +1,5 @@
 ghost use Rattle.std.specs.Prelude.{◌≡◌, ◌<◌};
-ghost use Rattle.counts.specs.Tallies.{plus, between, no_tallies};
+ghost use Rattle.counts.specs.Tallies.{plus, between};
 
 // A count has 14 bits.
 pub(crate) const MODULUS: u16 = 16_384;
@@ -10,7 +10,7 @@ pub(crate) const LAST_COUNT: u16 = MODULUS - 1;
 const WIDEST_GAP: u32 = 8_192;
 
 // Frames missed, seen twice and seen late, each counted modulo 2^32.
-#[derive(Clone, Copy, PartialEq, Eq, Debug)]
+#[derive(Clone, Copy, PartialEq, Eq, Debug, Default)]
 pub(crate) struct Tallies {
     pub(crate) missing: u32,
     pub(crate) repeats: u32,
@@ -18,16 +18,6 @@ pub(crate) struct Tallies {
 }
 
 impl Tallies {
-    pub(crate) fn none() -> Tallies
-        ensures { result ≡ no_tallies }
-    {
-        Tallies {
-            missing: 0,
-            repeats: 0,
-            late: 0,
-        }
-    }
-
     pub(crate) fn and(self, more: Tallies) -> Tallies
         ensures { result ≡ plus self more }
     {
@@ -45,7 +35,7 @@ pub(crate) fn step_between(last: u16, next: u16) -> Tallies
     ensures { last < 16384 → result ≡ between last next }
 {
     let modulus = u32::from(MODULUS);
-    let mut added = Tallies::none();
+    let mut added = Tallies::default();
     match (u32::from(next) + modulus - u32::from(last % MODULUS)) % modulus {
         0 => added.repeats = 1,
         1 => {}

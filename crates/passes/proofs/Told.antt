@@ -78,13 +78,6 @@ module _ {S I D : Type 0} (j : Joins S) (k : Rules S I D) (records : Records I) 
       let whole = λ (rest : List (List ℕ)). whole_on states shown letter text rest along state same lettered told in
       record { blocks = loaded.0; on = whole loaded.0 loaded.1; all = if_some known (λ bytes l. OnAll.to_the_end text (whole (blocks_of bytes) l)) loaded_all }
 
--- from a start that is known
-pub from_start : {S I D X E : Type 0} (j : Joins S) (k : Rules S I D) (records : Records I) (text_of : D → List ℕ) (read : ℕ) (hand : List ℕ) (known : Option (List ℕ)) (bytes_of : X → List ℕ) (r : Result X E) {d e : D}
-    → d ≡ e → (k.is_state d → IfOk r (λ x. Told known (λ rest. Report j k records d text_of read (hand ∷ rest)) (bytes_of x)))
-    → k.is_state e → IfOk r (λ x. Told known (λ rest. Report j k records e text_of read (hand ∷ rest)) (bytes_of x))
-from_start j k records text_of read hand known bytes_of r is told =
-    subst (λ d. k.is_state d → IfOk r (λ x. Told known (λ rest. Report j k records d text_of read (hand ∷ rest)) (bytes_of x))) is told
-
 -- of the kind with a letter that is known
 pub of_letter : {X E : Type 0} {l m : Letter} (read : ℕ) (hand : List ℕ) (known : Option (List ℕ)) (bytes_of : X → List ℕ) (r : Result X E) → l ≡ m
     → IfOk r (λ x. Told known (λ rest. KindReport m read (hand ∷ rest)) (bytes_of x))

@@ -5,37 +5,36 @@ ghost use Rattle.passes.specs.Reports.{KindReport, OnAll, Report, ReportOn, Told
 
 use crate::states::states_along;
 use crate::texts::{empty_text, error_text, pass_text};
-use buffer::{BufferState, BufferSummary};
-use counts::{CountState, CountSummary};
-use lock::{LockMap, LockState};
-use pairs::{CountedState, CountedTandem, LockedBuffer, LockedState};
+use buffer::BufferSummary;
+use counts::CountSummary;
+use lock::LockMap;
+use pairs::{CountedTandem, LockedBuffer};
 use recordings::{Blocks, load_all, open_pass};
 use run::Run;
-use server::{ServerState, ServerSummary};
+use server::ServerSummary;
 use station::{Letter, Recorded};
 use std::alloc::Global;
 use std::fmt::Display;
 use std::io::Read;
-use tandem::{TandemState, TandemSummary};
+use tandem::TandemSummary;
 
 // A run over this many cells has room for 512 entries.
 const CELLS: usize = 1_024;
 
-// The report on a pass of one kind, from a start. Its first data block is at hand.
+// The report on a pass of one kind, from its default state. Its first data block is at hand.
 fn report_kind<K: Recorded, R: Read + Drop>(
     heap: Global,
     mut blocks: Blocks<R>,
-    start: K::State,
 ) -> anyhow::Result<String>
 where
-    K::State: Display,
-    ensures { (text_of : K.State → List ℕ) → ((d : K.State) → K.State.Display.output d ≡ Some (text_of d)) → K.Station.rules.is_state start → IfOk result (λ text. Told (unread R.remaining blocks) (λ rest. Report K.Summary.joins K.Station.rules K.Recorded.records start text_of (read_count blocks) (at_hand blocks ∷ rest)) (string_bytes text)) }
+    K::State: Default + Display,
+    ensures { (start : K.State) (text_of : K.State → List ℕ) → ((d : K.State) → K.State.Default.is_default d → d ≡ start) → ((d : K.State) → K.State.Display.output d ≡ Some (text_of d)) → K.Station.rules.is_state start → IfOk result (λ text. Told (unread R.remaining blocks) (λ rest. Report K.Summary.joins K.Station.rules K.Recorded.records start text_of (read_count blocks) (at_hand blocks ∷ rest)) (string_bytes text)) }
 {
     let mut cells = vec![in heap; K::empty(); CELLS]?;
     let mut run = Run::open(&mut cells, 0);
     match load_all(&mut blocks, &mut run) {
         Ok(()) => {
-            let states = states_along(heap, &run, start)?;
+            let states = states_along(heap, &run, K::State::default())?;
             Ok(pass_text(heap, K::letter(), &states)?)
         }
         Err(error) => error_text(heap, error),
@@ -52,13 +51,13 @@ fn report_letter<R: Read + Drop>(
     ensures { IfOk result (λ text. Told (unread R.remaining blocks) (λ rest. KindReport letter (read_count blocks) (at_hand blocks ∷ rest)) (string_bytes text)) }
 {
     match letter {
-        Letter::F => report_kind::<ServerSummary, R>(heap, blocks, ServerState::default()),
-        Letter::T => report_kind::<TandemSummary, R>(heap, blocks, TandemState::default()),
-        Letter::B => report_kind::<BufferSummary, R>(heap, blocks, BufferState::default()),
-        Letter::S => report_kind::<LockMap, R>(heap, blocks, LockState::default()),
-        Letter::C => report_kind::<CountSummary, R>(heap, blocks, CountState::default()),
-        Letter::P => report_kind::<CountedTandem, R>(heap, blocks, CountedState::default()),
-        Letter::Q => report_kind::<LockedBuffer, R>(heap, blocks, LockedState::default()),
+        Letter::F => report_kind::<ServerSummary, R>(heap, blocks),
+        Letter::T => report_kind::<TandemSummary, R>(heap, blocks),
+        Letter::B => report_kind::<BufferSummary, R>(heap, blocks),
+        Letter::S => report_kind::<LockMap, R>(heap, blocks),
+        Letter::C => report_kind::<CountSummary, R>(heap, blocks),
+        Letter::P => report_kind::<CountedTandem, R>(heap, blocks),
+        Letter::Q => report_kind::<LockedBuffer, R>(heap, blocks),
     }
 }
 
