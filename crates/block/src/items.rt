@@ -18,6 +18,7 @@ fn lay_items<K: Recorded>(items: &[K::Item]) -> [u8; CONTENT_SIZE]
 {
     // Of fixed size, since nothing here allocates; how much of it is used follows from the head.
     let mut content = [0u8; CONTENT_SIZE];
+    // By number: of `as_chunks_mut` the library does not say what the content ends as.
     for (index, item) in items.iter().enumerate() {
         put(&mut content, RECORD_SIZE * index, &K::write(*item));
     }

@@ -11,6 +11,7 @@ use crate::layout::{BLOCK_SIZE, CONTENT_SIZE};
 pub fn write_note(text: &[u8], memory: &mut [u8]) -> Result<(), WriteFault>
     ensures { Writes (text_fits (length text.now)) (held_note text.now) memory.old memory.new result }
 {
+    // As `write_items` begins too, which says why.
     let size = memory.len();
     let front = memory
         .first_chunk_mut::<BLOCK_SIZE>()

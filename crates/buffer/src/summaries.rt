@@ -30,7 +30,8 @@ impl BufferSummary {
         (self.alpha, self.theta, self.g, self.k, self.m)
     }
 
-    // Holds x in alpha..theta, at alpha where alpha lies above theta.
+    // Holds x in alpha..theta, at alpha where alpha lies above theta. Here and below the contracts name the numbers, as the
+    // rules of a stretch do, which know no summary.
     fn hold(self, x: u32) -> u16
         ensures { result ≡ held self.alpha self.theta x }
     {

@@ -24,6 +24,7 @@ pub fn check_unused(bytes: &[u8], places: Range<usize>) -> Result<(), UsedByte>
 {
     let start = places.start;
     let end = places.end.min(bytes.len());
+    // By hand, since `ok_or` makes an error of none, and here some is the error.
     match bytes.get(start..end).and_then(first_used) {
         Some(offset) => Err(UsedByte {
             place: start + offset,

@@ -8,6 +8,7 @@ use counts::{CountSummary, FrameCount};
 use station::{Letter, Refusal};
 use std::test::Fail;
 
+// As in `figures`; no crate of both is for sample blocks and damaged ones.
 fn written(frames: &[FrameCount]) -> Result<[u8; BLOCK_SIZE], Fail> {
     let mut block = [0u8; BLOCK_SIZE];
     write_items::<CountSummary>(frames, &mut block).map_err(Refusal::from)?;
@@ -28,6 +29,7 @@ fn changed(block: [u8; BLOCK_SIZE], place: usize, byte: u8) -> [u8; BLOCK_SIZE] 
     mended(with_byte(block, place, byte))
 }
 
+// As in `figures` too.
 fn mended(block: [u8; BLOCK_SIZE]) -> [u8; BLOCK_SIZE] {
     put_number(block, 508..BLOCK_SIZE, u64::from(check_of(&block)))
 }
@@ -141,6 +143,7 @@ fn writers_refuse(rt: HostRuntime) -> Result<(), Fail> {
     Ok(())
 }
 
+// The number and place of a reader's and of a writer's fault. A trait with `place` for the two would be no plainer.
 fn of_reader(fault: BlockFault) -> (u8, usize) {
     (Refusal::from(fault).number(), fault.place())
 }

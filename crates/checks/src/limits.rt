@@ -6,6 +6,7 @@ use station::Refusal;
 use std::test::Fail;
 use tandem::{TandemJob, TandemState};
 
+// Written again, so that the tests don't take the limits from what they test.
 pub const CLOCK_END: u64 = 1_099_511_627_775;
 
 pub const SERVICE_LIMIT: u32 = 16_777_215;

@@ -6,13 +6,13 @@ use counts::{CountSummary, FrameCount};
 use lock::{LockEvent, LockMap};
 use pairs::{CountedTandem, LockedBuffer};
 use server::{Job, ServerSummary};
-use station::{Letter, Pair, RecordFault, Recorded};
+use station::{Letter, Pair, RECORD_SIZE, RecordFault, Recorded};
 use std::test::Fail;
 use tandem::{TandemJob, TandemSummary};
 
 // A record with some bytes in front and zeros behind.
-fn record(front: &[u8]) -> [u8; 16] {
-    let mut bytes = [0u8; 16];
+fn record(front: &[u8]) -> [u8; RECORD_SIZE] {
+    let mut bytes = [0u8; RECORD_SIZE];
     for (place, byte) in bytes.iter_mut().zip(front) {
         *place = *byte;
     }

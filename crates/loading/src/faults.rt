@@ -83,6 +83,7 @@ pub(crate) fn beside<T, F>(r: Result<T, F>, length: usize) -> Result<T, Lower<F>
     r.map_err(|fault| Lower { fault, length })
 }
 
+// One for each lower layer, since the case differs with its type.
 impl From<Lower<BlockFault>> for LoadFault {
     ghost from_gives = { λ lower r. r ≡ load_fault (cause.Block lower.fault) lower.length };
 

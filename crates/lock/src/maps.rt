@@ -40,7 +40,8 @@ fn map_of(letter: char) -> u32
     }
 }
 
-// Of a number above 7, which is no state, it looks at the three lowest bits, and so is safe for any.
+// Of a number above 7, which is no state, it looks at the three lowest bits, and so is safe for any. It takes numbers and no
+// `LockState`, since maps are composed digit by digit.
 fn image_of(map: u32, state: u8) -> u8
     ensures is { state ≤ last_state → result ≡ image map state }
     ensures small { result ≤ last_state }

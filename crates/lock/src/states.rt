@@ -26,7 +26,7 @@ impl LockState {
         Ok(LockState::numbered(number))
     }
 
-    // For a number that is known to be a state's.
+    // For a number that is known to be a state's; `TryFrom` would bring a refusal that cannot happen.
     pub(crate) fn numbered(number: u8) -> LockState
         requires { number ≤ last_state }
         ensures { result ≡ lock_state number }

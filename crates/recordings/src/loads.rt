@@ -13,7 +13,7 @@ use run::Run;
 use station::Recorded;
 use std::io::Read;
 
-// Loads the block at hand into a run, or says of which block the fault is.
+// Loads the block at hand into a run, or says of which block the fault is: one equation, which a name would only repeat.
 fn load_at_hand<K: Recorded, R: Read>(
     blocks: &Blocks<R>,
     run: &mut Run<'_, K>,
@@ -36,6 +36,7 @@ pub fn load_all<K: Recorded, R: Read>(
     ensures numbered { IfFault result (λ at. at.index ≡ number_at_hand blocks.new) }
     ensures known { (given : List K) (number : ℕ) → Met K.Summary.joins K.Station.rules K.Recorded.records given number [] run.old → IfSome (unread R.remaining blocks.old) (λ bytes. LoadedAll K.Summary.joins K.Station.rules given (terms_of given number K.Recorded.records) (read_count blocks.old) (at_hand blocks.old) (blocks_of bytes) run.new result) }
 {
+    // No `while`: a block is at hand when it begins.
     loop {
         load_at_hand(blocks, run)?;
         if !blocks.advance()? {

@@ -9,6 +9,7 @@ pub trait Station: Summary {
 
     type State: Copy;
 
+    // Not one with `joins`, since the tree of joins has no more than those.
     ghost rules: { Rules Self Self.Item Self.State };
 
     // The state behind one item.

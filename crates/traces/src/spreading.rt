@@ -8,7 +8,7 @@ fn write_effects<K: Station>(fronts: &[K], start: K::State, memory: &mut [K::Sta
     requires { length fronts.now ≤ length memory.old }
     ensures { Spreads K.Summary.joins K.Station.rules start fronts.now memory.old memory.new }
 {
-    // By number: the memory may have more places than there are prefixes.
+    // By number: behind `iter_mut().zip` the library does not say what the memory ends as.
     for (k, front) in fronts.iter().enumerate() {
         memory[k] = front.effect(start);
     }

@@ -22,8 +22,9 @@ impl<R: Read> Blocks<R> {
         }
     }
 
-    // Goes on to the next block. False at the end of the input, with nothing at hand. Nothing says that an input ends, so
-    // reading is given up where the blocks can no longer be counted.
+    // Goes on to the next block. False at the end of the input, with nothing at hand. The block is no part of the answer,
+    // since it stays at hand from the call that finds the first data block to the one that loads it. Nothing says that an
+    // input ends, so reading is given up where the blocks can no longer be counted.
     pub fn advance(&mut self) -> io::Result<bool>
         ensures more { IfOk result (λ more. more ≡ nat_lt 0 (length (at_hand self.new))) }
         ensures counted { IfOk result (λ more. read_count self.new ≡ (if more then read_count self.old + 1 else read_count self.old)) }

@@ -16,6 +16,7 @@ impl<'a, K: Station> Run<'a, K> {
         ensures ticket { IfErr result (λ e. e.ticket ≡ «ticket») }
         ensures settles { IsSettledBy ticket.number self.old → IsOk result }
     {
+        // Begins and ends as `take_back` does: a ticket goes back or is taken apart in the call itself.
         if self.tried_by(&ticket).is_none() {
             return Err(Unsettled {
                 refusal: Refusal::NothingToSettle,

@@ -14,6 +14,7 @@ fn lay_records<K: Recorded>(cells: &mut [K], place: usize, records: &[u8])
     ensures { Lays K.Station.rules K.Recorded.records place records.now cells.old cells.new }
 {
     let (chunks, _) = records.as_chunks::<RECORD_SIZE>();
+    // By number: behind `iter_mut().zip` the library does not say what the cells end as.
     for (index, record) in chunks.iter().enumerate() {
         // No error to pass up: all of them are items.
         let Ok(item) = K::read(*record) else {

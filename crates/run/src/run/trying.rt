@@ -27,10 +27,10 @@ impl<'a, K: Station> Run<'a, K> {
     pub(crate) fn ensure_settled(&self) -> Result<(), Refusal>
         ensures { result ≡ unless_open self.now.trial }
     {
-        match self.trial {
-            Some(_) => Err(Refusal::TrialOpen),
-            None => Ok(()),
+        if self.trial.is_some() {
+            return Err(Refusal::TrialOpen);
         }
+        Ok(())
     }
 
     // Refuses while a trial is open, and then a position without an entry.
