@@ -1,6 +1,6 @@
 -- The laws of a locked slot's record.
 use Rattle.std.specs.Prelude.{◌≡◌, ℕ, List, None, Ok, Err, Result, refl}
-use Rattle.std.proofs.Common.{ap, subst, ◌∙◌, arith}
+use Rattle.std.proofs.Common.{ap, subst, ◌∙◌, arith, rules}
 use Rattle.std.specs.List.{between}
 use Rattle.station.specs.Records.{IsRecord, RecordLaws}
 use Rattle.station.specs.Pairs.{pair, pair_rules}
@@ -60,3 +60,8 @@ locked_laws = record {
   read_written = λ bs p r h. let w = was bs p h in whole bs r w.unused ∙ ap locked_written w.is;
   written_record = λ p. record { whole = refl; small = search (append_small, digits_small, zeros_small) };
 }
+
+-- an item's record reads back as the item
+pub locked_back : (p : Pair LockEvent Slot) → (pair_rules lock_rules buffer_rules).is_item p → locked_read (locked_written p) ≡ Ok p
+unfolding zeros
+locked_back p h = search rules

@@ -1,13 +1,15 @@
 -- The laws of a slot's record.
-use Rattle.std.specs.Prelude.{◌≡◌, ℕ, List, ◌++◌, drop, None, Ok, refl}
+use Rattle.std.specs.Prelude.{◌≡◌, ℕ, List, ◌++◌, drop, None, Ok, Result, refl}
 use Rattle.std.proofs.Common.{ap, subst, ◌∙◌, arith, rules}
 use Rattle.std.specs.List.{between}
 use Rattle.station.specs.Records.{IsRecord, RecordLaws}
+use Rattle.station.specs.declared.records.RecordFault.{RecordFault}
 use Rattle.station.proofs.RecordWays.{unless_used_lem}
 use Rattle.byte_fields.specs.Numbers.{digits, field}
 use Rattle.byte_fields.specs.Unused.{zeros, first_used}
 use Rattle.byte_fields.proofs.NumberLaws.{digits_small, zeros_small, append_small}
 use Rattle.byte_fields.proofs.Layouts.{field_first, unused_last, field_below}
+use Rattle.buffer.specs.Steps.{slot}
 use Rattle.buffer.specs.Summaries.{buffer_rules}
 use Rattle.buffer.specs.Records.{slot_in, slot_read, slot_written, slot_records}
 use Rattle.buffer.specs.declared.slots.Slot.{Slot}
@@ -50,3 +52,12 @@ slot_laws = record {
   read_written = λ bs i r p. whole bs r (was bs i p).unused ∙ ap slot_written (was bs i p).is;
   written_record = λ i. record { whole = refl; small = search (append_small, digits_small, zeros_small) };
 }
+
+-- equal numbers make equal slots
+pub made : (a c b x y z : ℕ) → x ≡ a → y ≡ c → z ≡ b → ◌≡◌ {A = Result Slot RecordFault} (Ok (slot x y z)) (Ok (slot a c b))
+made a c b x y z p q r = cc
+
+-- an item's record reads back as the item
+pub slot_back : (i : Slot) → buffer_rules.is_item i → slot_read (slot_written i) ≡ Ok i
+unfolding zeros
+slot_back i h = search rules

@@ -1,6 +1,6 @@
 -- The laws of a frame count's record.
-use Rattle.std.specs.Prelude.{◌≡◌, ℕ, List, ◌++◌, None, Ok, nat_lt, refl}
-use Rattle.std.proofs.Common.{ap, subst, ◌∙◌, arith}
+use Rattle.std.specs.Prelude.{◌≡◌, ℕ, ◌<◌, List, ◌++◌, None, Ok, nat_lt, refl}
+use Rattle.std.proofs.Common.{ap, subst, ◌∙◌, arith, rules}
 use Rattle.std.specs.List.{between}
 use Rattle.std.proofs.lemmas.Bool.{ltb-true}
 use Rattle.station.specs.Records.{IsRecord, RecordLaws}
@@ -12,7 +12,7 @@ use Rattle.byte_fields.proofs.NumberLaws.{digits_small, zeros_small, append_smal
 use Rattle.byte_fields.proofs.Layouts.{field_first, unused_last}
 use Rattle.byte_fields.proofs.Ways.{cond_then}
 use Rattle.counts.specs.Counts.{frame_count, count_rules}
-use Rattle.counts.specs.Records.{placed_frame_count, frame_count_written, frame_count_records}
+use Rattle.counts.specs.Records.{placed_frame_count, frame_count_read, frame_count_written, frame_count_records}
 use Rattle.counts.specs.declared.frames.FrameCount.{FrameCount}
 
 -- what a number that makes a frame is
@@ -42,3 +42,12 @@ frame_laws = record {
       whole bs r u.0 ∙ ap frame_count_written (placed 0 (field 0 2 bs) i u.1).is;
   written_record = λ i. record { whole = refl; small = append_small (digits 2 i.count) (zeros 14) (digits_small 2 i.count) (zeros_small 14) };
 }
+
+-- a number below 16384 is read as the frame with that count
+pub made : (place n x : ℕ) → n < 16384 → x ≡ n → placed_frame_count place x ≡ Ok (frame_count n)
+made place n x h p = search rules
+
+-- an item's record reads back as the item
+pub frame_back : (i : FrameCount) → count_rules.is_item i → frame_count_read (frame_count_written i) ≡ Ok i
+unfolding zeros
+frame_back i h = search rules

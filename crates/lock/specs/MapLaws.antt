@@ -1,6 +1,6 @@
 -- Maps of eight states, packed into bits and joined.
 use Rattle.std.specs.Prelude.{◌≡◌, ℕ, zero, suc, ◌+◌, ◌-◌, ◌*◌, ◌/◌, ◌%◌, ◌^◌, ◌<◌, ◌≤◌, refl}
-use Rattle.std.proofs.Common.{sym, ap, ◌∙◌, arith, pow-suc, shr-shr}
+use Rattle.std.proofs.Common.{sym, ap, ◌∙◌, arith, pow-suc, shr-shr, rules}
 use Rattle.std.proofs.Math.Nat.{pow-le-pow_right}
 use Rattle.station.specs.Laws.{JoinLaws}
 use Rattle.lock.specs.Maps.{image, packed_from, packed, through, identity, lock_map, lock_joins}
@@ -62,6 +62,15 @@ pub compose_room : (x y state : ℕ) → 0 < state → packed_from (through x y)
 compose_room x y state h =
     let grows : 8 ^ (8 - state) ≤ 8 ^ 7 = (let le : 8 - state ≤ 7 = omega arith in pow-le-pow_right (omega arith) le) in
     omega (arith, packed_below (through x y) state (8 - state) (λ j _. image_small y (image x j)))
+
+-- The digit of the next state goes below those that are set,
+pub compose_turn : (x y i m between end : ℕ) → i < 8 → between ≡ image x (7 - i) → end ≡ image y between
+    → m ≡ packed_from (through x y) (8 - i) i → m * 8 + end ≡ packed_from (through x y) (8 - (i + 1)) (i + 1)
+compose_turn x y i m between end h first second is = search rules
+
+-- and behind the last turn all eight are set.
+pub compose_all : (x y i m : ℕ) → i ≡ 8 → m ≡ packed_from (through x y) (8 - i) i → m ≡ packed (through x y)
+compose_all x y i m h is = rw h at is
 
 -- the same of all eight states
 pub image_of : (f : ℕ → ℕ) (i : ℕ) → ((j : ℕ) → j < 8 → f j < 8) → i < 8 → image (packed f) i ≡ f i

@@ -1,6 +1,6 @@
 -- The laws of a job's record.
 use Rattle.std.specs.Prelude.{◌≡◌, ℕ, ◌≤◌, List, ◌++◌, None, Ok, nat_lt, refl}
-use Rattle.std.proofs.Common.{ap, subst, ◌∙◌, arith}
+use Rattle.std.proofs.Common.{ap, subst, ◌∙◌, arith, rules}
 use Rattle.std.specs.List.{between}
 use Rattle.std.proofs.lemmas.Bool.{ltb-false}
 use Rattle.station.specs.Records.{IsRecord, RecordLaws}
@@ -13,7 +13,7 @@ use Rattle.byte_fields.proofs.Layouts.{field_first, unused_last}
 use Rattle.byte_fields.proofs.Ways.{cond_else}
 use Rattle.server.specs.Clock.{clock_end, service_limit}
 use Rattle.server.specs.Server.{job, server_rules}
-use Rattle.server.specs.Records.{placed_job, job_written, job_records}
+use Rattle.server.specs.Records.{placed_job, job_read, job_written, job_records}
 use Rattle.server.specs.declared.jobs.Job.{Job}
 
 -- what numbers that make a job are
@@ -51,3 +51,8 @@ job_laws = record {
     small = append_small (digits 6 i.arrival) (digits 4 i.service ++ zeros 6) (digits_small 6 i.arrival) (append_small (digits 4 i.service) (zeros 6) (digits_small 4 i.service) (zeros_small 6));
   };
 }
+
+-- an item's record reads back as the item
+pub job_back : (i : Job) → server_rules.is_item i → job_read (job_written i) ≡ Ok i
+unfolding zeros
+job_back i h = search rules

@@ -1,6 +1,6 @@
 -- The laws of a counted job's record.
 use Rattle.std.specs.Prelude.{◌≡◌, ℕ, List, [], ◌++◌, drop, Ok, Err, Result, refl}
-use Rattle.std.proofs.Common.{ap, subst, ◌∙◌, arith}
+use Rattle.std.proofs.Common.{ap, subst, ◌∙◌, arith, rules}
 use Rattle.std.proofs.lemmas.List.{append-nil, drop_all}
 use Rattle.station.specs.Records.{IsRecord, RecordLaws}
 use Rattle.station.specs.Pairs.{pair, pair_rules}
@@ -69,3 +69,7 @@ counted_laws = record {
         (append_small (digits 4 p.second.second) (digits 2 p.first.count) (digits_small 4 p.second.second) (digits_small 2 p.first.count)));
   };
 }
+
+-- an item's record reads back as the item
+pub counted_back : (p : Pair FrameCount TandemJob) → (pair_rules count_rules tandem_rules).is_item p → counted_read (counted_written p) ≡ Ok p
+counted_back p h = search rules

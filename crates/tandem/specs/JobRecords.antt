@@ -1,6 +1,6 @@
 -- The laws of a job's record.
 use Rattle.std.specs.Prelude.{◌≡◌, ℕ, List, ◌++◌, None, Ok, nat_lt, refl}
-use Rattle.std.proofs.Common.{ap, subst, ◌∙◌, arith}
+use Rattle.std.proofs.Common.{ap, subst, ◌∙◌, arith, rules}
 use Rattle.std.specs.List.{between}
 use Rattle.std.proofs.lemmas.Bool.{ltb-false}
 use Rattle.station.specs.Records.{IsRecord, RecordLaws}
@@ -13,7 +13,7 @@ use Rattle.byte_fields.proofs.Layouts.{field_first, unused_last}
 use Rattle.byte_fields.proofs.Ways.{cond_else}
 use Rattle.server.specs.Clock.{clock_end, service_limit}
 use Rattle.tandem.specs.Tandem.{tandem_job, tandem_rules}
-use Rattle.tandem.specs.Records.{placed_tandem_job, tandem_job_written, tandem_job_records}
+use Rattle.tandem.specs.Records.{placed_tandem_job, tandem_job_read, tandem_job_written, tandem_job_records}
 use Rattle.tandem.specs.declared.jobs.TandemJob.{TandemJob}
 
 -- what numbers that make a job are
@@ -55,3 +55,12 @@ tandem_job_laws = record {
         (append_small (digits 4 i.second) (zeros 2) (digits_small 4 i.second) (zeros_small 2)));
   };
 }
+
+-- the numbers of a job within its limits are read as that job
+pub made : (a s₁ s₂ x y z : ℕ) → tandem_rules.is_item (tandem_job a s₁ s₂) → x ≡ a → y ≡ s₁ → z ≡ s₂ → placed_tandem_job x y z ≡ Ok (tandem_job a s₁ s₂)
+made a s₁ s₂ x y z h p q r = search rules
+
+-- an item's record reads back as the item
+pub tandem_job_back : (i : TandemJob) → tandem_rules.is_item i → tandem_job_read (tandem_job_written i) ≡ Ok i
+unfolding zeros
+tandem_job_back i h = search rules
