@@ -1,13 +1,14 @@
 -- Leaves written and the cells above them joined anew make what was wanted, and a tree of it.
-use Rattle.std.proofs.Common.{◌≡◌, ℕ, ◌+◌, ◌*◌, ◌/◌, ◌<◌, ◌≤◌, cond, ltb, List, length, set, Ok, Err, Result, sym, ap, ◌∙◌, subst, inl, arith}
+use Rattle.std.proofs.Common.{◌≡◌, ℕ, ◌+◌, ◌*◌, ◌/◌, ◌<◌, ◌≤◌, cond, ltb, List, length, set, Ok, Err, Result, sym, refl, ap, ◌∙◌, subst, inl, inr, ⊎_elim, arith}
 use Rattle.std.proofs.lemmas.List.{length-set, get_or-set_other}
+use Rattle.std.proofs.lemmas.Bool.{cases_lt}
 use Rattle.std.proofs.lemmas.Bool.Decides.{nat_tests}
 use Rattle.station.specs.Laws.{Joins}
 use Rattle.station.specs.declared.refusals.Refusal.{Refusal}
 use Rattle.station.specs.declared.refusals.Refusal.TheVariants.{NoSuchPosition}
 use Rattle.tree.specs.Answers.{AlikeOutside, JoinedAbove, places_of, placed, ranged, Writes, with_leaf}
 use Rattle.tree.specs.Capacity.{capacity}
-use Rattle.tree.specs.Cells.{AllCount, Tree, Rejoined}
+use Rattle.tree.specs.Cells.{cell, AllCount, Tree, Rejoined}
 use Rattle.tree.specs.Levels.{Above, TreeBut}
 use Rattle.tree.proofs.Levels.{Climbed}
 use Rattle.tree.proofs.Capacities.{capacity_room}
@@ -31,6 +32,16 @@ module _ {S : Type 0} (j : Joins S) where
     others = c.others;
     tree = λ t all. tree_top j (from / 2) ((to + 1) / 2) (omega arith) (c.tree (spoilt_above (places_of wanted) low high before wanted leaves alike t all));
   }
+
+  -- nothing lies above no leaves
+  pub above_none : (low high : ℕ) (wanted : List S) → high ≤ low → JoinedAbove j low high wanted wanted
+  above_none low high wanted none before alike =
+      let same : (k : ℕ) → cell j wanted k ≡ cell j before k = λ k. alike.same k (⊎_elim (λ (l : k < low). inl l) (λ (o : low ≤ k). inr (omega arith)) (cases_lt k low)) in
+      record {
+        long = alike.long;
+        others = λ k h. refl;
+        tree = λ t all. record { counts = all; inner = λ k pos lt. joined_same j before wanted k (same k) (same (2 * k)) (same (2 * k + 1)) (t.inner k pos lt) };
+      }
 
   granted_writes : (fit : Result (Unit {0}) Refusal) (before wanted after : List S) → fit ≡ Ok tt → Rejoined j (places_of before) before wanted after → Writes j fit before wanted after (Ok tt)
   granted_writes fit before wanted after fits done = record {

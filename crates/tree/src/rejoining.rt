@@ -17,12 +17,15 @@ fn join_level<S: Summary>(cells: &mut [S], level: Range<usize>)
     }
 }
 
-// Joins anew all that lies above some leaves, level by level, each cell once.
+// Joins anew all that lies above some leaves, level by level, each cell once. Nothing lies above none.
 pub(crate) fn rejoin<S: Summary>(cells: &mut [S], leaves: Range<usize>)
     requires first { places_of cells.old ≤ leaves.start }
     requires last { leaves.end ≤ 2 * places_of cells.old }
     ensures { JoinedAbove S.Summary.joins leaves.start leaves.end cells.old cells.new }
 {
+    if leaves.is_empty() {
+        return;
+    }
     let mut low = leaves.start;
     let mut high = leaves.end;
     // Where a level begins and ends follows from the one below it, so a `for` over the levels would be no plainer.

@@ -1,9 +1,9 @@
-use Rattle.std.proofs.Common.{◌≡◌, ◌+◌, ◌/◌, ◌≤◌, length, refl, arith}
+use Rattle.std.proofs.Common.{◌≡◌, ◌+◌, ◌/◌, ◌≤◌, length, refl, arith, rules}
 use Rattle.tree.specs.Answers.{places_of}
 use Rattle.tree.specs.Levels.{Above}
 use Rattle.tree.proofs.Capacities.{capacity_room}
 use Rattle.tree.proofs.Levels.{climbed_more, level_above, level_top, leaves_level}
-use Rattle.tree.proofs.Writings.{joined_above}
+use Rattle.tree.proofs.Writings.{above_none, joined_above}
 use Rattle.tree.proofs.rejoining.rejoin.Goals as goal
 
 pub loop-low-init : goal.loop-low-init
@@ -33,6 +33,9 @@ loop-low-preserved g c =
       climbed_more g.S.Summary.joins (places_of cells) (Above c.args.leaves.start c.args.leaves.end) l.low l.high c.div_ceil-high.result cells l.cells c.join_level.new.cells
           half (omega arith) last (omega (arith, l.auto.cells)) c.join_level.ensures l.invariant.2,
     )
+
+pub returns-then-is_empty : goal.returns-then-is_empty
+returns-then-is_empty g c = above_none g.S.Summary.joins c.args.leaves.start c.args.leaves.end c.args.cells.now (search rules)
 
 pub returns : goal.returns
 returns g c =
