@@ -33,27 +33,27 @@ pass_terms_lem : {S I : Type 0} (records : Records I) (given : List S) → lengt
 pass_terms_lem records given cells = ap (λ n. record { room = n; number = 0; records = records }) (room_of (length given) cells)
 
 module _ {S I D : Type 0} (j : Joins S) (k : Rules S I D) (records : Records I) (given : List S) (cells : length given ≡ 1024)
-    (start : D) (text_of : D → List ℕ) (read : ℕ) (hand : List ℕ) (known : Option (List ℕ)) (run : Run S) where
+    (start : D) (text_of : D → List ℕ) (first read : ℕ) (hand : List ℕ) (known : Option (List ℕ)) (run : Run S) where
   abbrev pub OnRest : List (List ℕ) → List ℕ → Type 0
-  OnRest rest = Report j k records start text_of read (hand ∷ rest)
+  OnRest rest = Report j k records start text_of first (hand ∷ rest)
 
-  broken_on : (rest : List (List ℕ)) (f : PassFault) → Broken j k (terms_of given 0 records) read f (hand ∷ rest) → OnRest rest (break_text f)
+  broken_on : (rest : List (List ℕ)) (f : PassFault) → Broken j k (terms_of given 0 records) first f (hand ∷ rest) → OnRest rest (break_text f)
   broken_on rest f broken =
-      Report.broken (hand ∷ rest) f (subst (λ w. Broken j k w read f (hand ∷ rest)) (pass_terms_lem records given cells) broken)
+      Report.broken (hand ∷ rest) f (subst (λ w. Broken j k w first f (hand ∷ rest)) (pass_terms_lem records given cells) broken)
 
-  broken_on_all : (f : PassFault) (bytes : List ℕ) → LoadedAll j k given (terms_of given 0 records) read hand (blocks_of bytes) run (Err (Fault f)) → OnAll OnRest (blocks_of bytes) (break_text f)
+  broken_on_all : (f : PassFault) (bytes : List ℕ) → LoadedAll j k given (terms_of given 0 records) first hand (blocks_of bytes) run (Err (Fault f)) → OnAll OnRest (blocks_of bytes) (break_text f)
   broken_on_all f bytes l = OnAll.to_a_fault l.0 l.1.0 f l.1.1.0 (broken_on l.0 f l.1.1.1)
 
   pub report_broken : {X E : Type 0} (now : ℕ) (error : PassError) (bytes_of : X → List ℕ) (r : Result X E)
-      → LoadedFrom j k given (terms_of given 0 records) read now hand run (Err error)
-      → IfSome known (λ bytes. LoadedAll j k given (terms_of given 0 records) read hand (blocks_of bytes) run (Err error))
+      → LoadedFrom j k given (terms_of given 0 records) first read now hand run (Err error)
+      → IfSome known (λ bytes. LoadedAll j k given (terms_of given 0 records) first hand (blocks_of bytes) run (Err error))
       → IfOk r (λ x. (f : PassFault) × ((error ≡ Fault f) × (bytes_of x ≡ break_text f)))
       → IfOk r (λ x. Told known OnRest (bytes_of x))
   report_broken now error bytes_of r loaded loaded_all =
       let w = terms_of given 0 records in
       made_map _ _ r (λ x told.
-      let l = subst (λ e. LoadedFrom j k given w read now hand run (Err e)) told.1.0 loaded in
-      let a = subst (λ e. IfSome known (λ bytes. LoadedAll j k given w read hand (blocks_of bytes) run (Err e))) told.1.0 loaded_all in
+      let l = subst (λ e. LoadedFrom j k given w first read now hand run (Err e)) told.1.0 loaded in
+      let a = subst (λ e. IfSome known (λ bytes. LoadedAll j k given w first hand (blocks_of bytes) run (Err e))) told.1.0 loaded_all in
       subst (Told known OnRest) (sym told.1.1)
       (record { blocks = l.0; on = broken_on l.0 told.0 l.1.0; all = if_some known (broken_on_all told.0) a }))
 
@@ -69,8 +69,8 @@ module _ {S I D : Type 0} (j : Joins S) (k : Rules S I D) (records : Records I) 
       (Report.whole bs (subst (λ w. Taken j k w bs) (pass_terms_lem records given cells) l.0))
 
   pub report_whole : (now : ℕ) (u : Unit {0}) (states shown : List D) (letter : Letter) (text : List ℕ)
-      → LoadedFrom j k given (terms_of given 0 records) read now hand run (Ok u)
-      → IfSome known (λ bytes. LoadedAll j k given (terms_of given 0 records) read hand (blocks_of bytes) run (Ok u))
+      → LoadedFrom j k given (terms_of given 0 records) first read now hand run (Ok u)
+      → IfSome known (λ bytes. LoadedAll j k given (terms_of given 0 records) first hand (blocks_of bytes) run (Ok u))
       → Tells j k run (λ t. k.is_state start → states ≡ states_along k start t.entries) → k.is_state start
       → shown ≡ states → letter ≡ records.letter → text ≡ pass_text text_of (letter_text letter) shown
       → Told known OnRest text
@@ -79,11 +79,11 @@ module _ {S I D : Type 0} (j : Joins S) (k : Rules S I D) (records : Records I) 
       record { blocks = loaded.0; on = whole loaded.0 loaded.1; all = if_some known (λ bytes l. OnAll.to_the_end text (whole (blocks_of bytes) l)) loaded_all }
 
 -- of the kind with a letter that is known
-pub of_letter : {X E : Type 0} {l m : Letter} (read : ℕ) (hand : List ℕ) (known : Option (List ℕ)) (bytes_of : X → List ℕ) (r : Result X E) → l ≡ m
-    → IfOk r (λ x. Told known (λ rest. KindReport m read (hand ∷ rest)) (bytes_of x))
-    → IfOk r (λ x. Told known (λ rest. KindReport l read (hand ∷ rest)) (bytes_of x))
-of_letter read hand known bytes_of r is told =
-    subst (λ n. IfOk r (λ x. Told known (λ rest. KindReport n read (hand ∷ rest)) (bytes_of x))) (sym is) told
+pub of_letter : {X E : Type 0} {l m : Letter} (first : ℕ) (hand : List ℕ) (known : Option (List ℕ)) (bytes_of : X → List ℕ) (r : Result X E) → l ≡ m
+    → IfOk r (λ x. Told known (λ rest. KindReport m first (hand ∷ rest)) (bytes_of x))
+    → IfOk r (λ x. Told known (λ rest. KindReport l first (hand ∷ rest)) (bytes_of x))
+of_letter first hand known bytes_of r is told =
+    subst (λ n. IfOk r (λ x. Told known (λ rest. KindReport n first (hand ∷ rest)) (bytes_of x))) (sym is) told
 
 pub paired : {X Y : Type 0} (p : Pair X Y) (x : X) (y : Y) → p.first ≡ x → p.second ≡ y → p ≡ pair x y
 paired p x y a b = ap (λ v. pair v p.second) a ∙ ap (pair x) b

@@ -1,5 +1,5 @@
 -- The report on the blocks of a recorded pass.
-use Rattle.std.specs.Prelude.{◌≡◌, ℕ, ◌+◌, List, [], ◌∷◌, ◌++◌, length, Some, None, IfSome, Ok, Err, Option, codes}
+use Rattle.std.specs.Prelude.{◌≡◌, ℕ, List, [], ◌∷◌, ◌++◌, length, Some, None, IfSome, Ok, Err, Option, codes}
 use Rattle.std.specs.List.{AllByRecursion}
 use Rattle.station.specs.Laws.{Joins, Rules}
 use Rattle.station.specs.Pairs.{pair, pair_joins, pair_rules}
@@ -39,12 +39,12 @@ use Rattle.recordings.specs.declared.faults.PassFault.{PassFault}
 abbrev pub pass_terms : {I : Type 0} → Records I → Terms I
 pass_terms records = record { room = 512; number = 0; records = records }
 
--- The report on blocks that are loaded into a run of one kind, where so many have been read with the first of them. The run
--- takes all, and the states along its trace are listed; or the last is refused, and its fault is all that is told.
-pub data Report {S I D : Type 0} (j : Joins S) (k : Rules S I D) (records : Records I) (start : D) (text_of : D → List ℕ) (read : ℕ) : List (List ℕ) → List ℕ → Type 0 where
+-- The report on blocks of which the first has a number, and which are loaded into a run of one kind. The run takes all,
+-- and the states along its trace are listed; or the last is refused, and its fault is all that is told.
+pub data Report {S I D : Type 0} (j : Joins S) (k : Rules S I D) (records : Records I) (start : D) (text_of : D → List ℕ) (first : ℕ) : List (List ℕ) → List ℕ → Type 0 where
   whole : (bs : List (List ℕ)) → Taken j k (pass_terms records) bs
-      → Report j k records start text_of read bs (pass_text text_of (letter_text records.letter) (states_along k start (after j k (pass_terms records) (loads_of bs)).entries))
-  broken : (bs : List (List ℕ)) (f : PassFault) → Broken j k (pass_terms records) read f bs → Report j k records start text_of read bs (break_text f)
+      → Report j k records start text_of first bs (pass_text text_of (letter_text records.letter) (states_along k start (after j k (pass_terms records) (loads_of bs)).entries))
+  broken : (bs : List (List ℕ)) (f : PassFault) → Broken j k (pass_terms records) first f bs → Report j k records start text_of first bs (break_text f)
 
 abbrev pub text_beside : {X Y : Type 0} → (X → List ℕ) → (Y → List ℕ) → Pair X Y → List ℕ
 text_beside f g p = f p.first ++ (codes " " ++ g p.second)
@@ -70,7 +70,7 @@ pub data ReportOn : List (List ℕ) → List ℕ → Type 0 where
   no_block : (notes : List (List ℕ)) (b : List ℕ) (f : BlockFault) → AllByRecursion IsNote notes → kind_of b ≡ Err f
       → ReportOn (notes ++ (b ∷ [])) (break_text (pass_fault (length notes) (load_fault (cause.Block f) 0)))
   of_kind : (notes rest : List (List ℕ)) (b : List ℕ) (l : Letter) (text : List ℕ) → AllByRecursion IsNote notes → kind_of b ≡ Ok (Some l)
-      → KindReport l (length notes + 1) (b ∷ rest) text → ReportOn (notes ++ (b ∷ rest)) text
+      → KindReport l (length notes) (b ∷ rest) text → ReportOn (notes ++ (b ∷ rest)) text
 
 -- A report on an input of these blocks: on all of them, or, with a fault, on those up to the one that is refused.
 pub data OnAll (P : List (List ℕ) → List ℕ → Type 0) (all : List (List ℕ)) : List ℕ → Type 0 where

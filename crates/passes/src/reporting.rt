@@ -1,5 +1,5 @@
 ghost use Rattle.std.specs.Prelude.{◌≡◌, ℕ, List, ◌∷◌, IfOk, IfSome, Some, string_bytes};
-ghost use Rattle.recordings.specs.Hand.{at_hand, read_count, unread};
+ghost use Rattle.recordings.specs.Hand.{at_hand, number_at_hand, unread};
 ghost use Rattle.recordings.specs.Input.{blocks_of};
 ghost use Rattle.passes.specs.Reports.{KindReport, OnAll, Report, ReportOn, Told};
 
@@ -28,11 +28,12 @@ fn report_kind<K: Recorded, R: Read + Drop>(
 ) -> anyhow::Result<String>
 where
     K::State: Default + Display,
-    ensures { (start : K.State) (text_of : K.State → List ℕ) → ((d : K.State) → K.State.Default.is_default d → d ≡ start) → ((d : K.State) → K.State.Display.output d ≡ Some (text_of d)) → K.Station.rules.is_state start → IfOk result (λ text. Told (unread R.remaining blocks) (λ rest. Report K.Summary.joins K.Station.rules K.Recorded.records start text_of (read_count blocks) (at_hand blocks ∷ rest)) (string_bytes text)) }
+    ensures { (start : K.State) (text_of : K.State → List ℕ) → ((d : K.State) → K.State.Default.is_default d → d ≡ start) → ((d : K.State) → K.State.Display.output d ≡ Some (text_of d)) → K.Station.rules.is_state start → IfOk result (λ text. Told (unread R.remaining blocks) (λ rest. Report K.Summary.joins K.Station.rules K.Recorded.records start text_of (number_at_hand blocks) (at_hand blocks ∷ rest)) (string_bytes text)) }
 {
     let mut cells = vec![in heap; K::empty(); CELLS]?;
     let mut run = Run::open(&mut cells, 0);
-    match load_all(&mut blocks, &mut run) {
+    let first = blocks.index();
+    match load_all(&mut blocks, first, &mut run) {
         Ok(()) => {
             let states = states_along(heap, &run, K::State::default())?;
             Ok(pass_text(heap, K::letter(), &states)?)
@@ -48,7 +49,7 @@ fn report_letter<R: Read + Drop>(
     letter: Letter,
     blocks: Blocks<R>,
 ) -> anyhow::Result<String>
-    ensures { IfOk result (λ text. Told (unread R.remaining blocks) (λ rest. KindReport letter (read_count blocks) (at_hand blocks ∷ rest)) (string_bytes text)) }
+    ensures { IfOk result (λ text. Told (unread R.remaining blocks) (λ rest. KindReport letter (number_at_hand blocks) (at_hand blocks ∷ rest)) (string_bytes text)) }
 {
     match letter {
         Letter::F => report_kind::<ServerSummary, R>(heap, blocks),
@@ -66,9 +67,9 @@ pub fn report<R: Read + Drop>(heap: Global, input: R) -> anyhow::Result<String>
     ensures told { IfOk result (λ text. (blocks : List (List ℕ)) × ReportOn blocks (string_bytes text)) }
     ensures known { IfOk result (λ text. IfSome (R.remaining input) (λ bytes. OnAll ReportOn (blocks_of bytes) (string_bytes text))) }
 {
-    let mut blocks = Blocks::new(heap, input);
+    let mut blocks = Blocks::new(input);
     match open_pass(&mut blocks) {
-        Ok(Some(letter)) => report_letter(heap, letter, blocks),
+        Ok(Some(opening)) => report_letter(heap, opening.letter, blocks),
         Ok(None) => Ok(empty_text(heap)?),
         Err(error) => error_text(heap, error),
     }

@@ -48,14 +48,12 @@ gives_block (Some xs) None block read within end = absurd read
 gives_block (Some xs) (Some ys) block read within end =
     elim (eq-or-lt_of_le within) [ inl full ↦ whole_block xs ys block read full | inr short ↦ last_block xs ys block read within (end short) ]
 
--- Bytes that are filled up to 512, or up to the end of the input, and cut off there, are the next block.
-pub block_read : (before after : Option (List ℕ)) (n size : ℕ) (bytes rest block : List ℕ) → block ≡ take n (take size (bytes ++ rest)) → length bytes ≡ 512 → n ≤ 512 → n ≤ size
-    → Consumes before after (take n bytes) → (n < length bytes → IsAtEnd after) → GivesBlock before after block
-block_read before after n size bytes rest block cut whole within fits read end =
-    let within_bytes : n ≤ length bytes = omega arith in
-    let front : block ≡ take n bytes = cut ∙ take-take n size (bytes ++ rest) fits ∙ take-append-le n bytes rest within_bytes in
-    let long : length block ≡ n = ap length front ∙ length-take-le n bytes within_bytes in
-    gives_block before after block (subst (Consumes before after) (sym front) read) (omega arith) (λ short. end (omega (arith, short)))
+-- Bytes that are filled up to 512, or up to the end of the input, hold the next block.
+pub block_read : (before after : Option (List ℕ)) (n : ℕ) (bytes : List ℕ) → length bytes ≡ 512 → n ≤ length bytes
+    → Consumes before after (take n bytes) → (n < length bytes → IsAtEnd after) → GivesBlock before after (take n bytes)
+block_read before after n bytes whole within read end =
+    let long : length (take n bytes) ≡ n = length-take-le n bytes within in
+    gives_block before after (take n bytes) read (omega arith) (λ short. end (omega (arith, short)))
 
 -- the blocks of the known bytes begin with these, which were read
 abbrev pub ReadsBlocks : Option (List ℕ) → Option (List ℕ) → List (List ℕ) → Type 0

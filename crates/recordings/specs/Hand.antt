@@ -1,9 +1,9 @@
 -- The block at hand, its number, how many have been, and what the input has behind it.
-use Rattle.std.specs.Prelude.{ℕ, ◌-◌, List, Option}
+use Rattle.std.specs.Prelude.{ℕ, ◌-◌, List, Option, take}
 use Rattle.recordings.specs.declared.blocks.Blocks.{Blocks}
 
 abbrev pub at_hand : {R : Type 0} → Blocks R → List ℕ
-at_hand b = b.block.items
+at_hand b = take b.filled b.block
 
 abbrev pub read_count : {R : Type 0} → Blocks R → ℕ
 read_count b = b.count

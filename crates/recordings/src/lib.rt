@@ -9,4 +9,4 @@ mod opening;
 pub use blocks::Blocks;
 pub use faults::{PassError, PassFault};
 pub use loads::load_all;
-pub use opening::open_pass;
+pub use opening::{Opening, open_pass};

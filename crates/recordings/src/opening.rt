@@ -1,15 +1,21 @@
 ghost use Rattle.std.specs.Prelude.{◌≡◌, IfSome};
-ghost use Rattle.recordings.specs.Hand.{at_hand, number_at_hand, read_count, unread};
+ghost use Rattle.recordings.specs.Hand.{at_hand, read_count, unread};
 ghost use Rattle.recordings.specs.Input.{blocks_of};
-ghost use Rattle.recordings.specs.Opening.{kind_of, kind_at, BeginsAll, BeginsBehindNotes};
-ghost use Rattle.recordings.specs.Faults.{IfFault};
+ghost use Rattle.recordings.specs.Opening.{kind_of, kind_at, BeginsAll, BeginsBehindNotes, NumberedFrom};
 
-use crate::blocks::Blocks;
+use crate::blocks::{Blocks, endless};
 use crate::faults::{PassError, PassFault};
 use block::{Block, BlockFault, read_block};
 use loading::{LoadCause, LoadFault};
 use station::Letter;
 use std::io::Read;
+
+// The first data block of a pass: the letter of its kind, and its number, from 0 on with the notes.
+#[derive(Clone, Copy)]
+pub struct Opening {
+    pub letter: Letter,
+    pub index: u64,
+}
 
 // The letter of a data block, none for a note.
 fn kind_of(bytes: &[u8]) -> Result<Option<Letter>, BlockFault>
@@ -21,12 +27,12 @@ fn kind_of(bytes: &[u8]) -> Result<Option<Letter>, BlockFault>
     }
 }
 
-// The same of the block at hand.
-fn kind_at_hand<R: Read>(blocks: &Blocks<R>) -> Result<Option<Letter>, PassFault>
-    ensures { result ≡ kind_at (number_at_hand blocks.now) (at_hand blocks.now) }
+// The same of a block with a number.
+fn kind_at(index: u64, bytes: &[u8]) -> Result<Option<Letter>, PassFault>
+    ensures { result ≡ kind_at index bytes.now }
 {
-    kind_of(blocks.block()).map_err(|fault| PassFault {
-        index: blocks.index(),
+    kind_of(bytes).map_err(|fault| PassFault {
+        index,
         fault: LoadFault {
             cause: LoadCause::Block(fault),
             length: 0,
@@ -34,16 +40,20 @@ fn kind_at_hand<R: Read>(blocks: &Blocks<R>) -> Result<Option<Letter>, PassFault
     })
 }
 
-// Passes over the notes in front. Answers the letter of the first data block, which stays at hand, or that there is none.
-pub fn open_pass<R: Read>(blocks: &mut Blocks<R>) -> Result<Option<Letter>, PassError>
+// Passes over the notes in front. Answers the first data block, which stays at hand, or that there is none. Blocks are
+// numbered from the call on.
+pub fn open_pass<R: Read>(blocks: &mut Blocks<R>) -> Result<Option<Opening>, PassError>
     ensures begins { BeginsBehindNotes (read_count blocks.old) (read_count blocks.new) (at_hand blocks.new) result }
-    ensures numbered { IfFault result (λ at. at.index ≡ number_at_hand blocks.new) }
+    ensures numbered { NumberedFrom (read_count blocks.old) (read_count blocks.new) result }
     ensures known { IfSome (unread R.remaining blocks.old) (λ bytes. BeginsAll (blocks_of bytes) (read_count blocks.old) (read_count blocks.new) (at_hand blocks.new) (unread R.remaining blocks.new) result) }
 {
-    while blocks.advance()? {
-        if let Some(letter) = kind_at_hand(blocks)? {
-            return Ok(Some(letter));
+    for index in 0..u64::MAX {
+        if !blocks.advance()? {
+            return Ok(None);
+        }
+        if let Some(letter) = kind_at(index, blocks.block())? {
+            return Ok(Some(Opening { letter, index }));
         }
     }
-    Ok(None)
+    Err(PassError::Input(endless()))
 }

@@ -1,12 +1,14 @@
-ghost use Rattle.std.specs.Prelude.{◌≡◌, ◌<◌, ◌≤◌, length, take, IfOk, OnOk, vec_len};
+ghost use Rattle.std.specs.Prelude.{◌≡◌, ◌<◌, ◌≤◌, length, take, IfOk};
 ghost use Rattle.std.specs.IoError.{error_kind};
 ghost use Rattle.std.specs.Io.{ReadsAtMost};
 ghost use Rattle.std.specs.Io.KnownBytes.{Consumes, IsAtEnd, ReadConsumes};
-ghost use Rattle.recordings.specs.Input.{GivesBlock, IsUninterrupted};
+ghost use Rattle.recordings.specs.Input.{IsUninterrupted};
 
-use block::BLOCK_SIZE;
 use std::io;
 use std::io::{ErrorKind, Read};
+
+// So often a read is made that a signal interrupts each time; an input that is interrupted without end is given up.
+const ATTEMPTS: u32 = 65_536;
 
 // Nothing says that an input ends, so whoever reads one counts, and gives up with this.
 pub(crate) fn endless() -> io::Error
@@ -21,8 +23,7 @@ fn read_uninterrupted<R: Read>(input: &mut R, bytes: &mut [u8]) -> io::Result<us
     ensures bytes { ReadConsumes (R.remaining input.old) (R.remaining input.new) result bytes.new }
     ensures retried { IsUninterrupted result }
 {
-    // Counted, since nothing says that the signals end.
-    for _ in 0..u64::MAX {
+    for _ in 0..ATTEMPTS {
         match input.read(bytes) {
             Ok(n) => return Ok(n),
             Err(error) => {
@@ -36,7 +37,7 @@ fn read_uninterrupted<R: Read>(input: &mut R, bytes: &mut [u8]) -> io::Result<us
 }
 
 // Fills bytes from the front as far as the input goes, since a read may give less than it is asked for. Answers how far.
-fn fill<R: Read>(input: &mut R, bytes: &mut [u8]) -> io::Result<usize>
+pub(crate) fn fill<R: Read>(input: &mut R, bytes: &mut [u8]) -> io::Result<usize>
     ensures within { IfOk result (λ n. n ≤ length bytes.old) }
     ensures bytes { IfOk result (λ n. Consumes (R.remaining input.old) (R.remaining input.new) (take n bytes.new)) }
     ensures end { IfOk result (λ n. n < length bytes.old → IsAtEnd (R.remaining input.new)) }
@@ -51,18 +52,5 @@ fn fill<R: Read>(input: &mut R, bytes: &mut [u8]) -> io::Result<usize>
         }
         filled += n;
     }
-    Ok(filled)
-}
-
-// Reads the next block of an input in place of another, and answers its length.
-pub(crate) fn read_block<R: Read>(input: &mut R, block: &mut Vec<u8>) -> io::Result<usize>
-    ensures filled { IfOk result (λ n. n ≡ length block.new.items) }
-    ensures within { vec_len block.old ≤ 512 → vec_len block.new ≤ 512 }
-    ensures next { OnOk result (GivesBlock (R.remaining input.old) (R.remaining input.new) block.new.items) }
-    ensures retried { IsUninterrupted result }
-{
-    block.resize(BLOCK_SIZE, 0)?;
-    let filled = fill(input, block)?;
-    block.truncate(filled);
     Ok(filled)
 }

@@ -3,21 +3,22 @@ ghost use Rattle.recordings.specs.Hand.{at_hand, number_at_hand, read_count, unr
 ghost use Rattle.recordings.specs.Input.{GivesBlock, IsUninterrupted};
 
 use crate::blocks::Blocks;
-use crate::blocks::filling::{endless, read_block};
-use std::alloc::Global;
+use crate::blocks::filling::{endless, fill};
+use block::BLOCK_SIZE;
 use std::io;
 use std::io::Read;
 
 impl<R: Read> Blocks<R> {
     // In front of the first block.
-    pub fn new(heap: Global, input: R) -> Blocks<R>
+    pub fn new(input: R) -> Blocks<R>
         ensures none { at_hand result ≡ [] }
         ensures uncounted { read_count result ≡ 0 }
         ensures unread { unread R.remaining result ≡ R.remaining input }
     {
         Blocks {
             input,
-            block: Vec::new(heap),
+            block: [0; BLOCK_SIZE],
+            filled: 0,
             count: 0,
         }
     }
@@ -33,7 +34,8 @@ impl<R: Read> Blocks<R> {
         ensures countable { IfOk result (λ more. read_count self.new < 2 ^ 64) }
     {
         let count = self.count.checked_add(1).ok_or_else(endless)?;
-        let filled = read_block(&mut self.input, &mut self.block)?;
+        let filled = fill(&mut self.input, &mut self.block)?;
+        self.filled = filled;
         if filled > 0 {
             self.count = count;
         }
@@ -44,7 +46,7 @@ impl<R: Read> Blocks<R> {
     pub fn block(&self) -> &[u8]
         ensures { result.now ≡ at_hand self.now }
     {
-        &self.block
+        &self.block[..self.filled]
     }
 
     // The number of the block at hand, from 0 on. Behind the end it is that of the last, and in front of the first 0.

@@ -10,8 +10,8 @@ returns-in-Ok-Some g c =
     let began = begun _ (read_count c.open_pass.new.blocks) (at_hand c.open_pass.new.blocks) _ _ (unread g.R.Read.remaining c.open_pass.new.blocks) _ _
     new.uncounted new.unread (c.in-Ok-Some.is ∙ ap Ok c.in-Ok-Some.field-0-is) opened.begins opened.known in
     record {
-      told = told_kind c.in-Ok-Some.letter string_bytes c.report_letter.result began c.report_letter.ensures;
-      known = told_kind_all c.in-Ok-Some.letter string_bytes c.report_letter.result began c.report_letter.ensures;
+      told = told_kind c.in-Ok-Some.opening string_bytes c.report_letter.result began c.report_letter.ensures;
+      known = told_kind_all c.in-Ok-Some.opening string_bytes c.report_letter.result began c.report_letter.ensures;
     }
 
 pub returns-in_ok-empty_text-in-Ok-None : goal.returns-in_ok-empty_text-in-Ok-None
