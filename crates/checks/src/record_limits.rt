@@ -163,3 +163,75 @@ fn of_locked_slots(rt: HostRuntime) -> Result<(), Fail> {
     );
     Ok(())
 }
+
+// Every number at its limit, and each in turn one beyond.
+#[test]
+fn of_jobs_one_beyond(rt: HostRuntime) {
+    let late = record(&[0, 0, 0, 0, 0, 1]);
+    assert_eq!(rt; ServerSummary::read(late), Err(RecordFault::Limit(0)));
+    let long = record(&[255, 255, 255, 255, 255, 0, 0, 0, 0, 1]);
+    assert_eq!(rt; ServerSummary::read(long), Err(RecordFault::Limit(6)));
+}
+
+#[test]
+fn of_tandem_jobs_one_beyond(rt: HostRuntime) -> Result<(), Fail> {
+    let most = record(&[255, 255, 255, 255, 255, 0, 255, 255, 255, 0, 255, 255, 255]);
+    let job = TandemJob::new(CLOCK_END, SERVICE_LIMIT, SERVICE_LIMIT)?;
+    assert_eq!(rt; TandemSummary::write(job), most);
+    assert_eq!(rt; TandemSummary::read(most), Ok(job));
+    let late = record(&[0, 0, 0, 0, 0, 1]);
+    assert_eq!(rt; TandemSummary::read(late), Err(RecordFault::Limit(0)));
+    let long = record(&[255, 255, 255, 255, 255, 0, 0, 0, 0, 1]);
+    assert_eq!(rt; TandemSummary::read(long), Err(RecordFault::Limit(6)));
+    let longer = record(&[255, 255, 255, 255, 255, 0, 255, 255, 255, 0, 0, 0, 0, 1]);
+    assert_eq!(rt; TandemSummary::read(longer), Err(RecordFault::Limit(10)));
+    Ok(())
+}
+
+// A slot's numbers have no limits but their width.
+#[test]
+fn of_slots_at_their_width(rt: HostRuntime) {
+    let most = record(&[255; 6]);
+    let slot = Slot::new(65_535, 65_535, 65_535);
+    assert_eq!(rt; BufferSummary::write(slot), most);
+    assert_eq!(rt; BufferSummary::read(most), Ok(slot));
+    assert_eq!(rt; BufferSummary::read(record(&[])), Ok(Slot::new(0, 0, 0)));
+}
+
+#[test]
+fn of_counted_jobs_one_beyond(rt: HostRuntime) -> Result<(), Fail> {
+    let most = record(&[
+        255, 255, 255, 255, 255, 0, 255, 255, 255, 0, 255, 255, 255, 0, 255, 63,
+    ]);
+    let item = Pair {
+        first: FrameCount::new(16_383)?,
+        second: TandemJob::new(CLOCK_END, SERVICE_LIMIT, SERVICE_LIMIT)?,
+    };
+    assert_eq!(rt; CountedTandem::write(item), most);
+    assert_eq!(rt; CountedTandem::read(most), Ok(item));
+    let late = record(&[0, 0, 0, 0, 0, 1]);
+    assert_eq!(rt; CountedTandem::read(late), Err(RecordFault::Limit(0)));
+    let long = record(&[255, 255, 255, 255, 255, 0, 0, 0, 0, 1]);
+    assert_eq!(rt; CountedTandem::read(long), Err(RecordFault::Limit(6)));
+    let longer = record(&[255, 255, 255, 255, 255, 0, 255, 255, 255, 0, 0, 0, 0, 1]);
+    assert_eq!(rt; CountedTandem::read(longer), Err(RecordFault::Limit(10)));
+    let behind = with_byte(with_byte(most, 14, 0), 15, 64);
+    assert_eq!(rt; CountedTandem::read(behind), Err(RecordFault::Limit(14)));
+    Ok(())
+}
+
+#[test]
+fn of_locked_slots_at_their_width(rt: HostRuntime) -> Result<(), Fail> {
+    let most = record(&[255, 255, 255, 255, 255, 255, 71]);
+    let item = Pair {
+        first: LockEvent::new('G')?,
+        second: Slot::new(65_535, 65_535, 65_535),
+    };
+    assert_eq!(rt; LockedBuffer::write(item), most);
+    assert_eq!(rt; LockedBuffer::read(most), Ok(item));
+    assert_eq!(rt;
+        LockedBuffer::read(with_byte(most, 6, 70)),
+        Err(RecordFault::Limit(6))
+    );
+    Ok(())
+}
