@@ -1,10 +1,6 @@
 -- What is told of a pass that begins behind notes.
 use Rattle.std.proofs.Common.{◌≡◌, ℕ, ◌-◌, List, [], ◌∷◌, ◌++◌, length, IfOk, IfSome, Some, None, Option, Ok, Err, Result, sym, ap, ◌∙◌, subst, append_assoc, arith}
 use Rattle.std.specs.List.{AllByRecursion}
-use Rattle.station.specs.declared.letters.Letter.{Letter}
-use Rattle.loading.specs.Faults.{load_fault}
-use Rattle.loading.specs.declared.faults.LoadCause.TheVariants as cause
-use Rattle.recordings.specs.Faults.{pass_fault}
 use Rattle.recordings.specs.Input.{blocks_of, Left}
 use Rattle.recordings.specs.Opening.{IsNote, Begins, BeginsBehindNotes, BeginsAll}
 use Rattle.recordings.specs.declared.opening.Opening.{Opening}

@@ -1,7 +1,7 @@
 -- Bytes that are cut into blocks, one block after another.
 use Rattle.std.proofs.Common.{◌≡◌, inl, inr, ℕ, zero, suc, ◌<◌, ◌≤◌, List, [], ◌∷◌, ◌++◌, length, take, drop, Some, None, IfSome, Option, sym, refl, ap, ◌∙◌, subst, arith, append-nil, append_assoc, length-drop, length-take, length-take-le}
 use Rattle.std.proofs.Math.Seq.{take-append_seam, drop-append_seam}
-use Rattle.std.proofs.lemmas.List.{take-take, take-append-le, take_all, drop_all, nil_from_length}
+use Rattle.std.proofs.lemmas.List.{take_all, drop_all, nil_from_length}
 use Rattle.std.proofs.Math.Nat.{eq-or-lt_of_le}
 use Rattle.std.specs.Io.KnownBytes.{Consumes, IsAtEnd}
 use Rattle.recordings.specs.Input.{blocks_within, blocks_of, GivesBlock, Left}

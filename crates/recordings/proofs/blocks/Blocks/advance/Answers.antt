@@ -1,5 +1,4 @@
 use Rattle.std.proofs.Common.{arith, rules}
-use Rattle.recordings.specs.Input.{GivesBlock}
 use Rattle.recordings.proofs.Cutting.{block_read}
 use Rattle.recordings.proofs.blocks.Blocks.advance.Goals as goal
 
