@@ -48,9 +48,13 @@ of_fault : (at : ℕ) (r : Result (Option Letter) BlockFault) (f : PassFault) �
 of_fault at (Ok k) f is = cc
 of_fault at (Err e) f is = (e, (cc, refl))
 
--- the fault of a block that is none, passed up, has the number by which the block was read
-pub fault_numbered : {X : Type 0} (at : ℕ) (hand : List ℕ) (f : PassFault) (r : Result X PassError) → kind_at at hand ≡ Err f → r ≡ Err (Fault f) → IfFault r (λ g. g.index ≡ at)
-fault_numbered at hand f r is passed = subst (λ q. IfFault q (λ g. g.index ≡ at)) (sym passed) (ap (λ g. g.index) (of_fault at (kind_of hand) f is).1.0)
+-- the fault of a block that is none, passed up, has the number by which the block was read: in any answer,
+pub fault_passed : {X : Type 0} (at : ℕ) (hand : List ℕ) (f : PassFault) (r : Result X PassError) → kind_at at hand ≡ Err f → r ≡ Err (Fault f) → IfFault r (λ g. g.index ≡ at)
+fault_passed at hand f r is passed = subst (λ q. IfFault q (λ g. g.index ≡ at)) (sym passed) (ap (λ g. g.index) (of_fault at (kind_of hand) f is).1.0)
+
+-- and in one that would be a letter
+pub fault_numbered : (at : ℕ) (hand : List ℕ) (f : PassFault) (r : Result (Option Letter) PassError) → kind_at at hand ≡ Err f → r ≡ Err (Fault f) → IfFault r (λ g. g.index ≡ at)
+fault_numbered = fault_passed
 
 pub no_notes : (before : ℕ) (known : Option (List ℕ)) → Notes before before 0 known known
 no_notes before known = record { notes = []; all = tt; at = refl; counted = omega arith; read = reads_none known }
@@ -87,7 +91,7 @@ pub opened_fault : {before now index : ℕ} {known left : Option (List ℕ)} (th
 opened_fault {before = before} {index = index} {known = known} then next hand f r was more gives some is passed =
     let e = of_fault index (kind_of hand) f is in
     let fault = e.1.0 ∙ ap (λ n. pass_fault n (load_fault (cause.Block e.0) 0)) was.at in
-    let at : f.index ≡ index = fault_numbered {X = Option Opening} index hand f (Err (Fault f)) is refl in
+    let at : f.index ≡ index = fault_passed {X = Option Opening} index hand f (Err (Fault f)) is refl in
     subst (Opened before then hand known next) (sym passed)
     (record {
       notes = was.notes;
