@@ -17,6 +17,7 @@ use Rattle.recordings.specs.Faults.{IfFault}
 use Rattle.recordings.specs.Input.{blocks_of, GivesBlock}
 use Rattle.recordings.specs.Loading.{loads_of, Taken, Broken, AllTaken, LoadedFrom, LoadedAll}
 use Rattle.recordings.proofs.Cutting.{ReadsBlocks, reads_none, reads_more, reads_all, blocks_left, split_left, if_some}
+use Rattle.recordings.proofs.Passing.{of_passed}
 
 -- A loop that loads: some blocks are taken, and one is at hand; the first of them has a number, and so has this one. So many
 -- have been read with the first, and so many now; so much was known of the bytes behind the first, and so much is of those
@@ -123,4 +124,4 @@ module _ {S I D : Type 0} {j : Joins S} {k : Rules S I D} {records : Records I} 
 -- The number of a block that is refused goes on from the first block's by the blocks read since.
 pub fault_numbered : (count read first index : ℕ) (f : PassFault) (r : Result (Unit {0}) PassError) → f.index ≡ index → count + index ≡ read + first → r ≡ Err (Fault f)
     → IfFault r (λ g. count + g.index ≡ read + first)
-fault_numbered count read first index f r is counted passed = subst (λ q. IfFault q (λ g. count + g.index ≡ read + first)) (sym passed) (omega (arith, is, counted))
+fault_numbered count read first index f r is counted passed = of_passed (λ g. count + g.index ≡ read + first) r f passed (omega (arith, is, counted))

@@ -15,6 +15,7 @@ use Rattle.recordings.specs.declared.faults.PassFault.{PassFault}
 use Rattle.recordings.specs.declared.faults.PassError.{PassError}
 use Rattle.recordings.specs.declared.faults.PassError.TheVariants.{Fault}
 use Rattle.recordings.proofs.Cutting.{ReadsBlocks, reads_none, reads_more, reads_all, if_some}
+use Rattle.recordings.proofs.Passing.{of_passed}
 
 -- nothing but notes was read; so many blocks were at hand before the first, and now, and so many bytes were known
 pub record Notes (before now index : ℕ) (known left : Option (List ℕ)) : Type 0 where
@@ -48,13 +49,9 @@ of_fault : (at : ℕ) (r : Result (Option Letter) BlockFault) (f : PassFault) �
 of_fault at (Ok k) f is = cc
 of_fault at (Err e) f is = (e, (cc, refl))
 
--- the fault of a block that is none, passed up, has the number by which the block was read: in any answer,
-pub fault_passed : {X : Type 0} (at : ℕ) (hand : List ℕ) (f : PassFault) (r : Result X PassError) → kind_at at hand ≡ Err f → r ≡ Err (Fault f) → IfFault r (λ g. g.index ≡ at)
-fault_passed at hand f r is passed = subst (λ q. IfFault q (λ g. g.index ≡ at)) (sym passed) (ap (λ g. g.index) (of_fault at (kind_of hand) f is).1.0)
-
--- and in one that would be a letter
+-- the fault of a block that is none has the number by which the block was read, also where it is passed up
 pub fault_numbered : (at : ℕ) (hand : List ℕ) (f : PassFault) (r : Result (Option Letter) PassError) → kind_at at hand ≡ Err f → r ≡ Err (Fault f) → IfFault r (λ g. g.index ≡ at)
-fault_numbered = fault_passed
+fault_numbered at hand f r is passed = of_passed (λ g. g.index ≡ at) r f passed (ap (λ g. g.index) (of_fault at (kind_of hand) f is).1.0)
 
 pub no_notes : (before : ℕ) (known : Option (List ℕ)) → Notes before before 0 known known
 no_notes before known = record { notes = []; all = tt; at = refl; counted = omega arith; read = reads_none known }
@@ -91,7 +88,7 @@ pub opened_fault : {before now index : ℕ} {known left : Option (List ℕ)} (th
 opened_fault {before = before} {index = index} {known = known} then next hand f r was more gives some is passed =
     let e = of_fault index (kind_of hand) f is in
     let fault = e.1.0 ∙ ap (λ n. pass_fault n (load_fault (cause.Block e.0) 0)) was.at in
-    let at : f.index ≡ index = fault_passed {X = Option Opening} index hand f (Err (Fault f)) is refl in
+    let at : f.index ≡ index = fault_numbered index hand f (Err (Fault f)) is refl in
     subst (Opened before then hand known next) (sym passed)
     (record {
       notes = was.notes;
